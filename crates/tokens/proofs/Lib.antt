@@ -1,0 +1,5 @@
+pub mod Lines
+pub mod Places
+pub mod Numbers
+pub mod Heads
+pub mod First
