@@ -1,0 +1,4 @@
+pub mod Shown
+pub mod Placed
+pub mod Words
+pub mod Held
