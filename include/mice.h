@@ -11,7 +11,7 @@
  * Nothing else: every content of that memory, and every length, has a defined answer. The functions always return, allocate
  * nothing, keep no pointer and have no state, so any number of threads may call them at once, each with its own written memory.
  *
- * Stack: under 256 KiB
+ * Stack: 36,016 bytes were measured for mice_check and 66,048 for mice_read (x86-64, host/stack.sh); lend a thread 128 KiB.
  *
  * The answer slice has room for at least MICE_ANSWER places and receives
  *     answer[0]  the refusal number, 0 for accepted (also what the function returns)
