@@ -16,10 +16,12 @@ const NUMBER_PLACE: usize = 0;
 const TOTAL_PLACE: usize = 2;
 // A report is over at most so many answers.
 const MOST_ANSWERS: usize = 1000;
+// The places of so many.
+pub const MOST_PLACES: usize = ANSWER_PLACES * MOST_ANSWERS;
 // The largest sum: 2^64 - 1.
 const MOST_SUM: u64 = 18446744073709551615;
 // Refusal: no answers, too many, or a slice that isn't whole answers.
-const ANSWERS_FORM: u64 = 33;
+pub const ANSWERS_FORM: u64 = 33;
 // Refusal: the sum is too large.
 const SUM_LARGE: u64 = 34;
 
