@@ -152,12 +152,13 @@ sum 12157665459056928810' nothing english large
 done
 if [ -x "$program" ]; then      # files that are no answers, and the largest that is
     cmd=$program
-    for size in 0 7 8 23 25 23999 24001 24024 99999; do
+    one=$((8 * $(sed -n 's/.*MICE_ANSWER = \([0-9]*\),.*/\1/p' "$here/../include/mice.h")))
+    for size in 0 7 8 $((one - 1)) $((one + 1)) $((1000 * one - 1)) $((1000 * one + 1)) $((1001 * one)) 999999; do
         head -c $size /dev/zero > "$packs/answers.bin"
         [ "$(cd "$packs" && "$program")" = 'refused 33 at 0' ] || fail "a file of $size bytes"
     done
-    head -c 24000 /dev/zero > "$packs/answers.bin"
-    [ "$(cd "$packs" && "$program" | head -n 1)" = 'accepted 1000' ] || fail "a file of 24000 bytes"
+    head -c $((1000 * one)) /dev/zero > "$packs/answers.bin"
+    [ "$(cd "$packs" && "$program" | head -n 1)" = 'accepted 1000' ] || fail "a file of 1,000 answers"
     rm "$packs/answers.bin"
     [ "$(cd "$packs" && "$program")" = 'refused 33 at 0' ] || fail "an absent file"
 fi
