@@ -1,4 +1,4 @@
-/* How much stack the two functions use: a thread's stack is painted, the function called, and the deepest byte that lost its
+/* How much stack the functions use: a thread's stack is painted, the function called, and the deepest byte that lost its
  * paint looked up. Space that is reserved but never written does not show, so several inputs are tried, full-size ones too. */
 #define _GNU_SOURCE
 #include <pthread.h>
@@ -12,21 +12,23 @@ enum { STACK = 16 << 20, PAINT = 0xA5 };
 struct call {
     const char *name;
     const struct words *formula, *trace;        /* a check .. */
-    const char *text;                           /* .. or, when there is one, a reading */
+    const char *text;                           /* .. or, when there is one, a reading .. */
     size_t text_len;
+    size_t answers_len;                         /* .. or, when there are answers, a report */
     uintptr_t top;                              /* where the call began */
     uint64_t returned;
 };
 
-static uint64_t counts[MICE_CLAIMS], answer[MICE_ANSWER];
+static uint64_t counts[MICE_CLAIMS], answer[MICE_ANSWER], answers[MICE_ANSWER * MICE_RELEASE_ANSWERS], report[MICE_REPORT];
 static int16_t room[MICE_WORDS];
 
 static void *make_call(void *of) {
     struct call *c = of;
     c->top = (uintptr_t)__builtin_frame_address(0);
-    c->returned = c->text ? mice_read((const uint8_t *)c->text, c->text_len, room, MICE_WORDS, answer, MICE_ANSWER)
-                          : mice_check(c->formula->at, c->formula->len, c->trace->at, c->trace->len, counts, MICE_CLAIMS,
-                                       answer, MICE_ANSWER);
+    c->returned = c->text          ? mice_read((const uint8_t *)c->text, c->text_len, room, MICE_WORDS, answer, MICE_ANSWER)
+                  : c->answers_len ? mice_release(answers, c->answers_len, report, MICE_REPORT)
+                                   : mice_check(c->formula->at, c->formula->len, c->trace->at, c->trace->len, counts, MICE_CLAIMS,
+                                                answer, MICE_ANSWER);
     return NULL;
 }
 
@@ -67,6 +69,7 @@ int main(void) {
         {.name = "read, P1", .text = small, .text_len = strlen(small)},
         {.name = "read, full size", .text = large, .text_len = len},
         {.name = "read, cut in a clause", .text = large, .text_len = len / 2},
+        {.name = "release, 1,000 answers", .answers_len = MICE_ANSWER * MICE_RELEASE_ANSWERS},
     };
     size_t most = 0;
     printf("%-26s%8s%16s\n", "call", "answer", "stack in bytes");

@@ -1,4 +1,4 @@
--- The three places of an answer, and a host's promise from those of the functions below. Assumes nothing.
+-- The places of an answer and of a report, and a host's promise from those of the functions below. Assumes nothing.
 use Prim.Native.Nat.{ℕ, _<_, _≤_}
 use mathlib.Core.Path.{_≡_, refl, ap, _∙_}
 use mathlib.Core.List.{List, [], _∷_}
@@ -10,6 +10,8 @@ use Rattle.meaning.specs.declared.Verdict.{Verdict}
 use Rattle.meaning.specs.declared.TextAnswer.{TextAnswer}
 use Rattle.meaning.specs.Limits.{Limits}
 use Rattle.meaning.specs.Promise.{over, answerPlaces, answerOf, numberOf, textVerdict, Checked, TextRead, Hosted, HostedText}
+use Rattle.release.specs.declared.Totals.{Totals}
+use Rattle.release.specs.Report.{reportPlaces, reportOf, reported, refusalOf, HostedReport}
 
 pub three : (xs : List ℕ) (a b c : ℕ) → answerPlaces ≤ length xs → set (set (set xs 0 a) 1 b) 2 c ≡ over (a ∷ b ∷ c ∷ []) xs
 three [] a b c h = absurd (omega arith)
@@ -38,3 +40,13 @@ module _ {L : Limits} {answer : List ℕ} where
         let e = le-ltb (length answer) answerPlaces h in
         let w = f ∙ ap textVerdict (p .answer-is) in
         record { number-is = rw e (i ∙ ap numberOf w); room-is = rw e (p .room-is); answer-is = rw e (j ∙ ap (λ v. over (answerOf v) answer) w) }
+
+module _ {answers report : List ℕ} where
+  pub report-short : length report < reportPlaces → HostedReport answers report 13 report
+  report-short h = let e = lt-ltb (length report) reportPlaces h in record { number-is = rw e; report-is = rw e }
+
+  pub report-long : {t : Totals} {k : ℕ} {report′ : List ℕ} → reportPlaces ≤ length report → t ≡ reportOf answers
+      → k ≡ refusalOf t → report′ ≡ over (reported t) report → HostedReport answers report k report′
+  report-long h p i j =
+      let e = le-ltb (length report) reportPlaces h in
+      record { number-is = rw e (i ∙ ap refusalOf p); report-is = rw e (j ∙ ap (λ t. over (reported t) report) p) }
