@@ -42,8 +42,8 @@ fn form_right(formula: &[i16], trace: &[i16], refusal: usize, place: usize) -> b
     match formula::form_of(formula) {
         formula::Form::Faulty(p) => refusal == FORMULA_REFUSAL && place == p,
         formula::Form::Good(n, m) => match trace::form_of(trace, n, m) {
-            trace::Form::Faulty(p) => refusal == TRACE_REFUSAL && place == p,
-            trace::Form::Good(_) => refusal == 0,
+            sections::Form::Faulty(p) => refusal == TRACE_REFUSAL && place == p,
+            sections::Form::Good(_) => refusal == 0,
         },
     }
 }

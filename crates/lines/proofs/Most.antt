@@ -20,9 +20,9 @@ use Rattle.meaning.specs.Form.{Line, Entry, Trace, formula, trace}
 use Rattle.meaning.specs.Verdict.{Way, Rule, Counted, Outcome, bySettings, after, goOn, claimOf, ruleOf, table, counted, judge, whenRead, check}
 use Rattle.meaning.specs.Text.{Text, sound, faulty, dimacs}
 use Rattle.meaning.specs.Lines.{digits, countLines, lastLine, wordsOf, textLines, program}
-use Rattle.lines.specs.Shown.{shown, named, claimLine, claimLines, verdictLine}
-use Rattle.lines.proofs.Digits.{few-digits, few-more}
-use Rattle.lines.proofs.Lines.{lines-are}
+use Rattle.render.specs.Shown.{shown, named, claimLine, claimLines, verdictLine}
+use Rattle.render.proofs.Digits.{few-digits, few-more}
+use Rattle.render.proofs.Lines.{lines-are}
 
 -- ---- digits
 

@@ -16,7 +16,7 @@ use Rattle.meaning.specs.Verdict.{bySettings, check}
 use Rattle.meaning.specs.Text.{Text, sound, faulty, dimacs}
 use Rattle.meaning.specs.Lines.{countLines, lastLine, wordsOf, checkLines, traceLines, textLines, program}
 use Rattle.meaning.specs.Promise.{over, fitting, textAnswer, roomAfter, TextRead, Checked, Printed}
-use Rattle.lines.specs.Placed.{Rendered}
+use Rattle.render.specs.Placed.{Rendered}
 use Rattle.lines.specs.Held.{claimsSaid, heldOf}
 use Rattle.lines.proofs.Kept.{kept}
 
