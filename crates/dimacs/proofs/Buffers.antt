@@ -1,22 +1,14 @@
 -- A literal put in its place: what the buffer's first places hold. Assumes nothing.
-use mathlib.Core.Path.{_≡_, refl, sym, ap, ap₂, subst, _∙_}
-use mathlib.Core.Bool.{Bool, true, false, not, _&&_, _||_, cond, true≢false}
-use mathlib.Core.List.{List, [], _∷_, _++_, map}
-use Prim.Native.Nat.{ℕ, zero, suc, _+_, _-_, _*_, _/_, _<_, _≤_}
+use mathlib.Core.Path.{_≡_, refl, sym, ap, ap₂, _∙_}
+use mathlib.Core.List.{List, [], _∷_, _++_}
+use Prim.Native.Nat.{ℕ, suc, _+_, _-_, _/_, _<_, _≤_}
 use native.Mathlib.Omega.{arith}
-use native.Mathlib.Numerals.{add-one, sub-one}
-use borrow.Author.Tests.{lt-ltb, le-ltb, ne-eqb, eq-eqb}
-use lib.Dec.{T, eqb, ltb, leb, ltb→lt}
+use native.Mathlib.Numerals.{add-one}
 use lib.IntN.{ℤ, pos}
 use lib.ListN.{length, getD, take, drop, set, length-set, length-take, take-append-drop, drop-of-length-le}
-use lib.Seq.{take-set-le, drop-set-lt, drop-cons, getD-take, take-take, length-take-le, getD-set-same, take-set-lt, paste, paste-zero, paste-suc, length-paste, take-paste, take-suc-set, append-snoc}
-use Rattle.meaning.specs.Lists.{any}
-use Rattle.meaning.specs.Meaning.{Literal, Clause, var, named}
-use Rattle.meaning.specs.Text.{insert}
-use Rattle.meaning.proofs.Formed.{risesFrom}
-use Rattle.meaning.proofs.Logic.{and-l, and-r}
+use lib.Seq.{take-set-le, drop-set-lt, drop-cons, getD-take, take-take, length-take-le, getD-set-same, take-set-lt, paste-zero, paste-suc, length-paste, take-paste, take-suc-set, append-snoc}
 use Rattle.dimacs.specs.Formed.{Closed}
-use Rattle.dimacs.specs.Clause.{varAt, Between, Spot, spliced, Spliced, Copied}
+use Rattle.dimacs.specs.Clause.{varAt, Between, Spot, Spliced, Copied}
 
 -- ---- moving up
 

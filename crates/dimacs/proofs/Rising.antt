@@ -1,13 +1,13 @@
 -- Where a literal belongs in a clause whose variables rise. Assumes nothing.
-use mathlib.Core.Path.{_≡_, refl, sym, ap, ap₂, subst, _∙_}
-use mathlib.Core.Bool.{Bool, true, false, not, _&&_, _||_, cond, true≢false}
-use mathlib.Core.List.{List, [], _∷_, _++_}
+use mathlib.Core.Path.{_≡_, refl, sym, ap, _∙_}
+use mathlib.Core.Bool.{Bool, true, false, _&&_, _||_, true≢false}
+use mathlib.Core.List.{List, [], _∷_}
 use Prim.Native.Nat.{ℕ, zero, suc, _+_, _-_, _<_, _≤_}
 use native.Mathlib.Omega.{arith}
-use borrow.Author.Tests.{lt-ltb, le-ltb, ne-eqb, eq-eqb, eqb-true, eqb-false, ltb-true, ltb-false}
+use borrow.Author.Tests.{lt-ltb, le-ltb, ne-eqb, eq-eqb, eqb-true, ltb-true}
 use lib.Dec.{T, eqb, ltb, ltb→lt}
-use lib.IntN.{ℤ, pos, negsuc, negℤ, natAbs}
-use lib.ListN.{length, getD, take, drop}
+use lib.IntN.{ℤ, pos}
+use lib.ListN.{length, take}
 use lib.Seq.{getD-take, length-take-le}
 use Rattle.meaning.specs.Meaning.{Literal, Clause, var, named}
 use Rattle.meaning.specs.Text.{insert}

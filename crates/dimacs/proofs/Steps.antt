@@ -1,28 +1,27 @@
 -- Reading token by token: reading the rest from here, after what was read, is reading all. Assumes nothing.
 use mathlib.Core.Path.{_≡_, refl, sym, ap, ap₂, subst, _∙_}
-use mathlib.Core.Bool.{Bool, true, false, not, _&&_, _||_, cond, true≢false}
+use mathlib.Core.Bool.{Bool, true, false, not, _&&_, _||_, true≢false}
 use mathlib.Core.List.{List, [], _∷_, _++_, map, append-assoc, append-nil}
-use mathlib.Core.Option.{Option, none, some}
-use Prim.Native.Nat.{ℕ, zero, suc, _+_, _-_, _*_, _<_, _≤_}
+use mathlib.Core.Option.{none, some}
+use Prim.Native.Nat.{ℕ, _+_, _-_, _*_, _<_, _≤_}
 use native.Mathlib.Omega.{arith}
 use borrow.Author.Tests.{lt-ltb, le-ltb, le-leb, lt-leb, ne-eqb, eq-eqb, eqb-true, eqb-false}
-use lib.Dec.{T, eqb, ltb, leb}
+use lib.Dec.{eqb, ltb}
 use lib.IntN.{ℤ, pos}
-use lib.ListN.{length, getD, take, drop, length-append}
+use lib.ListN.{length, getD, take, length-append}
 use lib.Seq.{length-take-le}
-use Rattle.meaning.specs.declared.TextAnswer.{TextAnswer}
 use Rattle.meaning.specs.declared.TextAnswer.the-variants.{Words, Faulty}
 use Rattle.meaning.specs.Lists.{flat, firstFailing}
 use Rattle.meaning.specs.Limits.{small}
-use Rattle.meaning.specs.Meaning.{Literal, Clause, Formula, var, named}
+use Rattle.meaning.specs.Meaning.{Clause, Formula, var, named}
 use Rattle.meaning.specs.Form.{Cnf}
-use Rattle.meaning.specs.Text.{Text, sound, faulty, _>>=_, Piece, Reading, insert, taken, faults, unless, token, body, whole, signed, clauseWords, formulaWords}
+use Rattle.meaning.specs.Text.{Text, sound, faulty, _>>=_, Piece, Reading, insert, taken, faults, unless, body, whole, signed, clauseWords, formulaWords}
 use Rattle.tokens.specs.declared.Signed.the-variants as signs
 use Rattle.tokens.specs.Scan.{parts, parted, wordAt, tokensFrom, piece, Next}
 use Rattle.tokens.specs.Numbers.{literalOf, signedRead}
 use Rattle.tokens.proofs.Places.{gap-token, gap-end, word-goes, word-within}
 use Rattle.dimacs.specs.Clause.{Begun, Added}
-use Rattle.dimacs.specs.Formed.{Closed, clausesFrom, Roomy, Headed, answerOf, Held, Formed}
+use Rattle.dimacs.specs.Formed.{Closed, clausesFrom, Formed}
 use Rattle.dimacs.proofs.Rising.{var-literal}
 
 abbrev start-of : Reading

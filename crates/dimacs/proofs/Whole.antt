@@ -1,34 +1,33 @@
 -- The whole text: its header's line, its clauses, and the room. Assumes nothing.
 use mathlib.Core.Path.{_≡_, refl, sym, ap, ap₂, subst, _∙_}
-use mathlib.Core.Bool.{Bool, true, false, not, _&&_, _||_, cond}
-use mathlib.Core.List.{List, [], _∷_, _++_, map}
-use mathlib.Core.Option.{Option, none, some}
-use Prim.Native.Nat.{ℕ, zero, suc, _+_, _-_, _*_, _<_, _≤_}
+use mathlib.Core.Bool.{_&&_, cond}
+use mathlib.Core.List.{List, _++_}
+use mathlib.Core.Option.{none, some}
+use Prim.Native.Nat.{ℕ, _+_, _-_, _<_, _≤_}
 use native.Mathlib.Omega.{arith}
 use native.Mathlib.Nat.{zero-add}
 use borrow.Author.Tests.{lt-ltb, le-ltb, le-leb, lt-leb}
-use lib.Dec.{T, eqb, ltb, leb}
-use lib.IntN.{ℤ, pos}
+use lib.Dec.{leb}
+use lib.IntN.{ℤ}
 use lib.ListN.{length, take, drop, length-take}
 use lib.Seq.{paste}
 use Rattle.meaning.specs.declared.TextAnswer.{TextAnswer}
 use Rattle.meaning.specs.declared.TextAnswer.the-variants.{Words, Faulty}
-use Rattle.meaning.specs.Lists.{flat}
 use Rattle.meaning.specs.Limits.{small}
 use Rattle.meaning.specs.Form.{Cnf}
-use Rattle.meaning.specs.Text.{Text, sound, faulty, _>>=_, Piece, body, whole, tokens, lines, header, clausesOf, headed, formulaOf, formulaWords, dimacs}
-use Rattle.meaning.specs.Promise.{over, textAnswer, roomAfter, TextRead}
+use Rattle.meaning.specs.Text.{Text, sound, faulty, _>>=_, Piece, lines, header, clausesOf, headed, formulaWords, dimacs}
+use Rattle.meaning.specs.Promise.{over, TextRead}
 use Rattle.meaning.proofs.Each.{Each}
 use Rattle.meaning.proofs.Dimacs.{Sizes, header-fits}
 use Rattle.tokens.specs.declared.Header.{Header}
 use Rattle.tokens.specs.declared.Header.the-variants as heads
-use Rattle.tokens.specs.Scan.{line, piece, lineEnd, tokensFrom}
-use Rattle.tokens.specs.Header.{linesAt, FirstLine, headRead}
+use Rattle.tokens.specs.Scan.{line, piece, lineEnd}
+use Rattle.tokens.specs.Header.{FirstLine, headRead}
 use Rattle.tokens.proofs.Places.{line-within}
 use Rattle.tokens.proofs.First.{linesAfter, lines-solid, lines-none, after-tokens, up-to}
 use Rattle.dimacs.specs.Clause.{Copied}
 use Rattle.dimacs.proofs.Steps.{faulty-formed}
-use Rattle.dimacs.specs.Formed.{clausesFrom, Headed, answerOf, Held, Formed}
+use Rattle.dimacs.specs.Formed.{clausesFrom, Headed, Formed}
 
 -- ---- the header's line
 

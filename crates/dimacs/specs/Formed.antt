@@ -8,7 +8,7 @@ use Rattle.meaning.specs.declared.TextAnswer.{TextAnswer}
 use Rattle.meaning.specs.declared.TextAnswer.the-variants.{Words, Faulty}
 use Rattle.meaning.specs.Limits.{small}
 use Rattle.meaning.specs.Form.{Cnf}
-use Rattle.meaning.specs.Text.{Text, sound, faulty, _>>=_, Reading, body, whole, formulaWords}
+use Rattle.meaning.specs.Text.{Text, sound, faulty, _>>=_, body, whole, formulaWords}
 use Rattle.tokens.specs.Scan.{tokensFrom}
 
 -- a clause that has ended is written: its length and its literals

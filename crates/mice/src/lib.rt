@@ -8,7 +8,7 @@ ghost use mathlib.Core.Path.{_≡_};
 ghost use mathlib.Core.List.{_∷_, []};
 ghost use lib.ListN.{length};
 ghost use Rattle.meaning.specs.Limits.{small};
-ghost use Rattle.meaning.specs.Promise.{answerPlaces, answerOf, textVerdict, numberOf, over, Hosted, HostedText};
+ghost use Rattle.meaning.specs.Promise.{answerPlaces, answerOf, numberOf, over, Hosted, HostedText};
 ghost use Rattle.release.specs.Report.{reportPlaces, placesOf, reported, refusalOf, HostedReport};
 
 // How many places an answer has.

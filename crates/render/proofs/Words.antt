@@ -1,31 +1,18 @@
 -- The words of bytes, two by two. Assumes nothing.
 use mathlib.Core.Path.{_≡_, refl, sym, ap, ap₂, _∙_}
-use mathlib.Core.Bool.{Bool, true, false}
 use mathlib.Core.List.{List, [], _∷_}
 use Prim.Native.Nat.{ℕ, suc, _+_, _*_, _/_, _<_, _≤_}
 use native.Mathlib.Numerals.{add-one}
 use native.Mathlib.Omega.{arith}
-use borrow.Author.Tests.{lt-ltb, le-ltb, ltb-true, ltb-false}
-use lib.Dec.{ltb}
-use lib.IntN.{ℤ, pos, negsuc}
+use lib.IntN.{ℤ}
 use lib.ListN.{length, getD, drop, set, length-drop}
 use lib.Seq.{sets, drop-cons}
-use mir.Syntax.{w16}
-use mir.Val.{toZ}
 use Rattle.meaning.specs.Lines.{wordsOf}
 use Rattle.render.specs.Words.{wordOf}
 
--- sixteen bits are the word of their two bytes
-pub bits-are : (low high bits : ℕ) → low < 256 → high < 256 → bits ≡ low + 256 * high → toZ w16 bits ≡ wordOf low high
-bits-are low high bits l h e = go (ltb high 128) refl
-  where
-    go : (b : Bool) → ltb high 128 ≡ b → toZ w16 bits ≡ wordOf low high
-    go true t =
-        let q : high < 128 = ltb-true high 128 t in
-        rw (t, lt-ltb bits 32768 (omega arith)) (ap pos e)
-    go false t =
-        let q : 128 ≤ high = ltb-false high 128 t in
-        rw (t, le-ltb bits 32768 (omega arith)) (ap negsuc (omega arith))
+-- the word of two bytes
+pub word-is : (low high : ℕ) {z : ℤ} → wordsOf (low ∷ high ∷ []) ≡ z ∷ [] → z ≡ wordOf low high
+word-is low high e = cc
 
 next-word : (bytes : List ℕ) (i : ℕ) → 2 * i + 1 < length bytes → wordsOf (drop (2 * i) bytes) ≡ wordOf (getD bytes (2 * i) 0) (getD bytes (2 * i + 1) 0) ∷ wordsOf (drop (2 * (i + 1)) bytes)
 next-word bytes i more =

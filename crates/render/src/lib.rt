@@ -8,7 +8,7 @@ ghost use Rattle.meaning.specs.Limits.{small};
 ghost use Rattle.meaning.specs.Lines.{countLines, lastLine};
 ghost use Rattle.render.specs.Shown.{shown, named, pairLine, claimLine, claimLines, verdictLine};
 ghost use Rattle.render.specs.Placed.{Room, Placed, Rendered};
-ghost use Rattle.render.specs.Words.{wordOf, Unpacked};
+ghost use Rattle.render.specs.Words.{Unpacked};
 use meaning::Verdict;
 
 // The bytes of `claim  count ` and the line's end.
@@ -196,26 +196,6 @@ pub fn render(counts: &[u64], verdict: Verdict, buffer: &mut [u8]) -> usize
     needed
 }
 
-// A byte as a number that can be put together with another.
-fn wide(byte: u8) -> u16
-    ensures { λ r. ⌜ r ≡ byte ⌝ }
-    ensures { λ r. ⌜ r < 256 ⌝ }
-{
-    byte as u16
-}
-
-// The word of two bytes, the low one first. `!x` is -x - 1 and never overflows.
-fn word(low: u8, high: u8) -> i16
-    ensures { λ r. ⌜ r ≡ wordOf low high ⌝ }
-{
-    let bits = wide(low) + 256 * wide(high);
-    if bits < 32768 {
-        bits as i16
-    } else {
-        !((65535 - bits) as i16)
-    }
-}
-
 // The whole words of a trace file, and how many they are.
 pub fn unpack(bytes: &[u8], words: &mut [i16]) -> usize
     requires { ⌜ length (now bytes) / 2 ≤ length (now words) ⌝ }
@@ -224,7 +204,7 @@ pub fn unpack(bytes: &[u8], words: &mut [i16]) -> usize
     let count = bytes.len() / 2;
     let mut i = 0;
     while i < count {
-        words[i] = word(bytes[2 * i], bytes[2 * i + 1]);
+        words[i] = words::word_of(bytes[2 * i], bytes[2 * i + 1]);
         i += 1;
     }
     count

@@ -7,7 +7,6 @@
 use libc::STDOUT_FILENO;
 use meaning::TextAnswer;
 ghost use Prim.Native.Nat.{_≤_};
-ghost use lib.ListN.{length};
 
 // What stands in the room before the read.
 const FILL: i16 = -21931;

@@ -1,22 +1,22 @@
 -- The first line that is neither comment nor blank, and what follows it. Assumes nothing.
-use mathlib.Core.Path.{_≡_, refl, sym, ap, subst, _∙_}
-use mathlib.Core.Logic.{_⊎_, inl, inr, ⊎-elim}
-use mathlib.Core.Bool.{Bool, true, false, not, _&&_, _||_, cond, true≢false}
-use mathlib.Core.List.{List, [], _∷_, _++_, map}
-use Prim.Native.Nat.{ℕ, zero, suc, _+_, _-_, _<_, _≤_}
+use mathlib.Core.Path.{_≡_, refl, sym, ap, _∙_}
+use mathlib.Core.Logic.{_⊎_, ⊎-elim}
+use mathlib.Core.Bool.{Bool, true, false, cond}
+use mathlib.Core.List.{List, [], _∷_, map}
+use Prim.Native.Nat.{ℕ, suc, _+_, _-_, _<_, _≤_}
 use native.Mathlib.Omega.{arith}
 use native.Mathlib.Numerals.{add-one}
 use native.Mathlib.Nat.{add-zero, add-suc, suc-add}
-use borrow.Author.Tests.{ltb-true, ltb-false, lt-ltb, le-ltb}
-use lib.Dec.{eqb, ltb, leb}
-use lib.ListN.{length, getD, drop, take, length-drop, length-take, drop-of-length-le}
+use borrow.Author.Tests.{lt-ltb, le-ltb}
+use lib.Dec.{ltb}
+use lib.ListN.{length, drop, take, drop-of-length-le}
 use lib.Seq.{drop-cons, drop-drop, drop-at, length-take-le, take-add}
-use Rattle.meaning.specs.Lists.{keep, isEmpty, flat}
-use Rattle.meaning.specs.Text.{is, begins, Piece, cut, tokens, lines}
-use Rattle.tokens.specs.Scan.{line, piece, scan, Mode, comment, gap, stands, lineEnd, tokensFrom, Next}
+use Rattle.meaning.specs.Lists.{keep, flat}
+use Rattle.meaning.specs.Text.{is, Piece, cut, tokens, lines}
+use Rattle.tokens.specs.Scan.{line, piece, stands, lineEnd, tokensFrom, Next}
 use Rattle.tokens.specs.Header.{solidLine, linesAt, FirstLine, OneLine}
-use Rattle.tokens.proofs.Lines.{rest, cut-line, streams, streamed}
-use Rattle.tokens.proofs.Places.{comment-line, gap-end, line-within, line-onward}
+use Rattle.tokens.proofs.Lines.{rest, cut-line, streams}
+use Rattle.tokens.proofs.Places.{comment-line, line-within, line-onward}
 use Rattle.tokens.proofs.Heads.{tokens-are, next-or, begins-drop}
 
 -- ---- the lines after a line

@@ -1,24 +1,23 @@
 -- The header's line: its words and its numbers. Assumes nothing.
-use mathlib.Core.Path.{_≡_, refl, sym, ap, subst, _∙_}
-use mathlib.Core.Bool.{Bool, true, false, not, _&&_, _||_, cond, true≢false}
-use mathlib.Core.List.{List, [], _∷_, _++_, map, append-nil}
+use mathlib.Core.Path.{_≡_, refl, sym, ap, _∙_}
+use mathlib.Core.Bool.{Bool, true, false, _&&_, cond, true≢false}
+use mathlib.Core.List.{List, [], _∷_, append-nil}
 use mathlib.Core.Option.{Option, none, some}
-use Prim.Native.Nat.{ℕ, zero, suc, _+_, _-_, _<_, _≤_}
+use Prim.Native.Nat.{ℕ, suc, _+_, _-_, _<_, _≤_}
 use Prim.Native.Char.{Char, code}
 use native.Mathlib.Omega.{arith}
-use native.Mathlib.Nat.{add-assoc}
 use mathlib.Core.Logic.{_⊎_, inl, inr, ⊎-elim}
-use borrow.Author.Tests.{eqb-true, ltb-true, ltb-false, lt-ltb, le-ltb, le-leb, lt-leb, eq-eqb, ne-eqb}
+use borrow.Author.Tests.{eqb-true, ltb-true, ltb-false, lt-ltb, le-ltb, le-leb, lt-leb, ne-eqb}
 use lib.Dec.{eqb, ltb, leb, eqb·suc-suc}
-use lib.ListN.{length, getD, drop, take, length-drop, drop-of-length-le}
+use lib.ListN.{length, getD, drop, length-drop, drop-of-length-le}
 use lib.Seq.{drop-length, drop-cons}
-use Rattle.meaning.specs.Lists.{keep, isEmpty, sameBy, given, only}
+use Rattle.meaning.specs.Lists.{sameBy, given, only}
 use Rattle.meaning.specs.Limits.{small}
-use Rattle.meaning.specs.Text.{is, begins, spells, Piece, cut, tokens, lines, numeral, tokenOf, isHeader, header}
+use Rattle.meaning.specs.Text.{is, begins, spells, Piece, tokens, numeral, header}
 use Rattle.tokens.specs.Scan.{parts, line, piece, scan, stands, parted, lineEnd, wordAt, tokensFrom, Next}
 use Rattle.tokens.specs.declared.Numeral.the-variants as numerals
 use Rattle.tokens.specs.Numbers.{numeralRead}
-use Rattle.tokens.specs.Header.{solidLine, linesAt, FirstLine, OneLine, bytesOf, sizesOf}
+use Rattle.tokens.specs.Header.{OneLine, bytesOf, sizesOf}
 use Rattle.tokens.proofs.Places.{not-parted, stands-parted, word-stops, word-goes, gap-token, gap-end, comment-line, word-within, and-true-l, and-true-r, stands-inside}
 use Rattle.tokens.proofs.Lines.{gap-line}
 use Rattle.tokens.proofs.Numbers.{big-parts}

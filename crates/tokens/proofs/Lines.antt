@@ -1,13 +1,13 @@
 -- The pieces of the definition are those of the scan from left to right. Assumes nothing.
-use mathlib.Core.Path.{_≡_, refl, sym, ap, ap₂, _∙_}
-use mathlib.Core.Bool.{Bool, true, false, not, _&&_, cond}
-use mathlib.Core.List.{List, [], _∷_, _++_, map, append-assoc}
-use Prim.Native.Nat.{ℕ, zero, suc, _+_}
+use mathlib.Core.Path.{_≡_, refl, sym, ap, _∙_}
+use mathlib.Core.Bool.{Bool, true, false, not, cond}
+use mathlib.Core.List.{List, [], _∷_, _++_, map}
+use Prim.Native.Nat.{ℕ, suc, _+_}
 use borrow.Author.Tests.{eqb-true}
 use Rattle.meaning.specs.Lists.{keep, isEmpty, flat}
-use Rattle.meaning.specs.Text.{is, blank, begins, Piece, longer, cut, tokens, lines}
+use Rattle.meaning.specs.Text.{is, blank, begins, Piece, longer, cut, tokens}
 use Rattle.tokens.specs.Header.{solidLine}
-use Rattle.tokens.specs.Scan.{line, Mode, fresh, comment, gap, inside, piece, scan}
+use Rattle.tokens.specs.Scan.{line, fresh, comment, gap, inside, piece, scan}
 
 abbrev solid : Piece → Bool
 solid t = not (isEmpty (t .bytes))

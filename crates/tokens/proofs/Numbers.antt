@@ -1,18 +1,18 @@
 -- The number of a token, digit by digit. Assumes nothing.
-use mathlib.Core.Path.{_≡_, refl, sym, ap, subst, _∙_}
+use mathlib.Core.Path.{_≡_, refl, sym, ap, _∙_}
 use mathlib.Core.Bool.{Bool, true, false, not, _&&_, _||_, cond, true≢false}
 use mathlib.Core.List.{List, [], _∷_}
 use mathlib.Core.Option.{Option, none, some}
-use Prim.Native.Nat.{ℕ, zero, suc, _+_, _-_, _*_, _^_, _<_, _≤_}
+use Prim.Native.Nat.{ℕ, _+_, _-_, _*_, _^_, _<_, _≤_}
 use Prim.Native.Char.{Char, code}
 use native.Mathlib.Omega.{arith}
-use borrow.Author.Tests.{ltb-true, ltb-false, leb-true, ne-eqb, eqb-true, lt-ltb, le-ltb, le-leb, lt-leb, eq-eqb}
+use borrow.Author.Tests.{ltb-true, leb-true, ne-eqb, eqb-true, lt-ltb, le-leb, lt-leb, eq-eqb}
 use lib.Dec.{eqb, ltb, leb}
 use lib.IntN.{ℤ, pos, negℤ}
 use lib.ListN.{length, getD}
 use lib.Pow.{pow-add, pow-mono, pow-pos}
 use Rattle.meaning.specs.Lists.{all, only, given}
-use Rattle.meaning.specs.Text.{is, begins, value, numeral, signed}
+use Rattle.meaning.specs.Text.{begins, value, numeral, signed}
 use Rattle.tokens.specs.Scan.{parts, stands, parted, wordAt}
 use Rattle.tokens.specs.declared.Numeral.the-variants as numerals
 use Rattle.tokens.specs.declared.Signed.the-variants as signs

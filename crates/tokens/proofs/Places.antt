@@ -2,17 +2,17 @@
 use mathlib.Core.Path.{_≡_, refl, sym, ap, _∙_}
 use mathlib.Core.Bool.{Bool, true, false, not, _&&_, _||_, cond, true≢false}
 use mathlib.Core.List.{List, [], _∷_}
-use Prim.Native.Nat.{ℕ, zero, suc, _+_, _<_, _≤_, _-_}
+use Prim.Native.Nat.{ℕ, suc, _+_, _<_, _≤_, _-_}
 use native.Mathlib.Omega.{arith}
 use native.Mathlib.Nat.{add-zero, add-suc, suc-add}
 use native.Mathlib.Numerals.{add-one}
-use borrow.Author.Tests.{eqb-true, ne-eqb, ltb-true, ltb-false, not-false, lt-ltb, le-ltb}
+use borrow.Author.Tests.{eqb-true, ne-eqb, ltb-true, ltb-false, not-false}
 use lib.Dec.{eqb, ltb}
 use lib.ListN.{length, getD, drop, length-drop, drop-of-length-le}
 use lib.Seq.{drop-cons, drop-drop}
-use Rattle.meaning.specs.Text.{is, blank, Piece, longer}
-use Rattle.tokens.specs.Scan.{parts, word, line, Mode, fresh, comment, gap, inside, piece, scan, stands, parted, lineEnd, wordAt, tokensFrom, linesFrom, Past}
-use Rattle.tokens.proofs.Lines.{fresh-gap, fresh-comment}
+use Rattle.meaning.specs.Text.{is, blank, longer}
+use Rattle.tokens.specs.Scan.{parts, word, line, fresh, comment, gap, inside, piece, scan, stands, parted, lineEnd, wordAt, tokensFrom, linesFrom, Past}
+use Rattle.tokens.proofs.Lines.{fresh-gap}
 
 -- ---- at one byte of a list
 

@@ -5,12 +5,6 @@ use Rattle.words.proofs.Words.{back}
 use borrow.Author.Needs.{needs}
 use Rattle.dimacs.proofs.add.Statement.{statement}
 use Rattle.dimacs.proofs.add.Tie as tie
-use Rattle.dimacs.proofs.add.Reads as reads
-use Rattle.dimacs.proofs.add.Lts as lts
-use Rattle.dimacs.proofs.literal.Reads as literal-reads
-use Rattle.dimacs.proofs.same_before.Reads as same-before-reads
-use Rattle.dimacs.proofs.splice.Reads as splice-reads
-use Rattle.dimacs.proofs.spot.Reads as spot-reads
 
 spot-requires : tie.Need-spot-requires
 spot-requires c κs = search needs

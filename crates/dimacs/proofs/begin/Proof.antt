@@ -8,8 +8,6 @@ use mathlib.Core.Path.{_≡_}
 use borrow.Author.Needs.{needs}
 use Rattle.dimacs.proofs.begin.Statement.{statement}
 use Rattle.dimacs.proofs.begin.Tie as tie
-use Rattle.dimacs.proofs.begin.Reads as reads
-use Rattle.dimacs.proofs.begin.Lts as lts
 
 cast-words : tie.Need-cast-words
 cast-words c = search needs

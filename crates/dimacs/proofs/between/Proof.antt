@@ -5,9 +5,6 @@ use native.Mathlib.Omega.{arith}
 use Prim.Native.Nat.{_-_, _≤_}
 use Rattle.dimacs.proofs.between.Statement.{statement}
 use Rattle.dimacs.proofs.between.Tie as tie
-use Rattle.dimacs.proofs.between.Reads as reads
-use Rattle.dimacs.proofs.between.Lts as lts
-use Rattle.dimacs.proofs.order_at.Reads as order-at-reads
 
 abbrev Inv-loop : tie.InvT-loop
 Inv-loop clause v low high lo₀ hi₀ lo hi = Between clause v lo hi × (hi ≤ high)

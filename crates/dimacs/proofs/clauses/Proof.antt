@@ -1,23 +1,15 @@
 use Rattle.dimacs.proofs.Steps.{room-to-close, end-within, after-onward, stand-closed, may-add, stand-added}
-use Rattle.dimacs.proofs.Steps.{Standing, going-none, no-number, fault-6, fault-4, fault-5, closes, adds, too-few, all-read, token-room}
-use Rattle.tokens.proofs.Places.{word-within}
+use Rattle.dimacs.proofs.Steps.{Standing, going-none, no-number, fault-6, fault-4, fault-5, too-few, all-read}
 use Rattle.tokens.specs.Numbers.{signedRead}
 use Rattle.tokens.specs.declared.Signed.the-variants as signs
 use lib.ListN.{length}
 use borrow.Author.Needs.{needs}
 use native.Mathlib.Omega.{arith}
-use mathlib.Core.Path.{_≡_, refl, sym, subst, _∙_}
-use Prim.Native.Nat.{_-_, _≤_, _<_}
+use mathlib.Core.Path.{_≡_, refl, subst, _∙_}
+use Prim.Native.Nat.{_-_}
 use mathlib.Core.List.{[]}
 use Rattle.dimacs.proofs.clauses.Statement.{statement}
 use Rattle.dimacs.proofs.clauses.Tie as tie
-use Rattle.dimacs.proofs.clauses.Reads as reads
-use Rattle.dimacs.proofs.clauses.Lts as lts
-use Rattle.dimacs.proofs.add.Reads as add-reads
-use Rattle.dimacs.proofs.begin.Reads as begin-reads
-use Rattle.dimacs.proofs.close.Reads as close-reads
-use Rattle.tokens.proofs.next.Reads as next-reads
-use Rattle.tokens.proofs.number_at.Reads as number-at-reads
 
 abbrev Inv-loop : tie.InvT-loop
 Inv-loop text start n m clause₀ words₀ k₀ used₀ ended₀ at₀ clause words k used ended at = Standing text n m start clause words k used ended at × (length words ≡ length words₀) × (length clause ≡ length clause₀)

@@ -9,9 +9,6 @@ use native.Mathlib.Omega.{arith}
 use borrow.Author.Needs.{needs}
 use Rattle.dimacs.proofs.close.Statement.{statement}
 use Rattle.dimacs.proofs.close.Tie as tie
-use Rattle.dimacs.proofs.close.Reads as reads
-use Rattle.dimacs.proofs.close.Lts as lts
-use Rattle.dimacs.proofs.copy.Reads as copy-reads
 
 cast-words : tie.Need-cast-words
 cast-words c = search needs

@@ -1,15 +1,12 @@
 use Rattle.dimacs.proofs.Buffers.{copied-none, copied-more, copied-length}
 use Rattle.dimacs.specs.Clause.{Copied}
 use Rattle.words.proofs.Words.{back}
-use lib.ListN.{length}
 use borrow.Author.Needs.{needs}
 use native.Mathlib.Omega.{arith}
 use mathlib.Core.Path.{_≡_}
-use Prim.Native.Nat.{_+_, _-_, _≤_}
+use Prim.Native.Nat.{_-_, _≤_}
 use Rattle.dimacs.proofs.copy.Statement.{statement}
 use Rattle.dimacs.proofs.copy.Tie as tie
-use Rattle.dimacs.proofs.copy.Reads as reads
-use Rattle.dimacs.proofs.copy.Lts as lts
 
 abbrev Inv-loop : tie.InvT-loop
 Inv-loop from count to₀ at i₀ to i = (i ≤ count) × Copied from i to₀ at to

@@ -3,12 +3,6 @@ use Rattle.tokens.proofs.First.{ends-at, ends-one}
 use borrow.Author.Needs.{needs}
 use Rattle.dimacs.proofs.formula.Statement.{statement}
 use Rattle.dimacs.proofs.formula.Tie as tie
-use Rattle.dimacs.proofs.formula.Reads as reads
-use Rattle.dimacs.proofs.formula.Lts as lts
-use Rattle.dimacs.proofs.clauses.Reads as clauses-reads
-use Rattle.tokens.proofs.first_line.Reads as first-line-reads
-use Rattle.tokens.proofs.header_of.Reads as header-of-reads
-use Rattle.tokens.proofs.line_end.Reads as line-end-reads
 
 first-line-requires : tie.Need-first-line-requires
 first-line-requires c κs = search needs

@@ -1,10 +1,7 @@
 use Rattle.dimacs.proofs.Signs.{plus-is, minus-fits, minus-is}
-use mathlib.Core.Path.{_∙_}
 use borrow.Author.Needs.{needs}
 use Rattle.dimacs.proofs.literal.Statement.{statement}
 use Rattle.dimacs.proofs.literal.Tie as tie
-use Rattle.dimacs.proofs.literal.Reads as reads
-use Rattle.dimacs.proofs.literal.Lts as lts
 
 cast-w : tie.Need-cast-w
 cast-w c = search needs

@@ -2,10 +2,6 @@ use Rattle.dimacs.proofs.Whole.{too-long}
 use borrow.Author.Needs.{needs}
 use Rattle.dimacs.proofs.read.Statement.{statement}
 use Rattle.dimacs.proofs.read.Tie as tie
-use Rattle.dimacs.proofs.read.Reads as reads
-use Rattle.dimacs.proofs.read.Lts as lts
-use Rattle.dimacs.proofs.read_long.Reads as read-long-reads
-use Rattle.dimacs.proofs.read_short.Reads as read-short-reads
 
 returns : tie.Need-returns
 returns c = too-long _ (c .if1 .taken)

@@ -8,10 +8,6 @@ use native.Mathlib.Omega.{arith}
 use borrow.Author.Needs.{needs}
 use Rattle.dimacs.proofs.read_by.Statement.{statement}
 use Rattle.dimacs.proofs.read_by.Tie as tie
-use Rattle.dimacs.proofs.read_by.Reads as reads
-use Rattle.dimacs.proofs.read_by.Lts as lts
-use Rattle.dimacs.proofs.copy.Reads as copy-reads
-use Rattle.dimacs.proofs.formula.Reads as formula-reads
 
 -- the formula's words are in the buffer
 formed : (c : tie.After-used)

@@ -2,9 +2,6 @@ use borrow.Author.Tests.{lt-ltb, le-ltb}
 use borrow.Author.Needs.{needs}
 use Rattle.dimacs.proofs.same_before.Statement.{statement}
 use Rattle.dimacs.proofs.same_before.Tie as tie
-use Rattle.dimacs.proofs.same_before.Reads as reads
-use Rattle.dimacs.proofs.same_before.Lts as lts
-use Rattle.words.proofs.size_at.Reads as size-at-reads
 
 sub-size-at : tie.Need-sub-size-at
 sub-size-at c = search needs

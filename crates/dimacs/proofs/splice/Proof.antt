@@ -2,18 +2,15 @@ use Rattle.dimacs.specs.Clause.{Spliced}
 use mathlib.Core.Path.{subst}
 use lib.ListN.{set}
 use Prim.Native.Nat.{ℕ}
-use lib.IntN.{ℤ}
 use Rattle.dimacs.proofs.Buffers.{Moved, moved-none, moved-more, moved-set}
 use Rattle.words.proofs.Words.{back}
 use lib.ListN.{length, length-set}
 use borrow.Author.Needs.{needs}
 use native.Mathlib.Omega.{arith}
-use mathlib.Core.Path.{_≡_, _∙_}
+use mathlib.Core.Path.{_≡_}
 use Prim.Native.Nat.{_-_, _≤_, _<_}
 use Rattle.dimacs.proofs.splice.Statement.{statement}
 use Rattle.dimacs.proofs.splice.Tie as tie
-use Rattle.dimacs.proofs.splice.Reads as reads
-use Rattle.dimacs.proofs.splice.Lts as lts
 
 abbrev Inv-loop : tie.InvT-loop
 Inv-loop clause₀ k at w i₀ clause i = (at ≤ i) × (i ≤ k) × (k < length clause₀) × Moved clause₀ k i clause

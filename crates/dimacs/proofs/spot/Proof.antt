@@ -4,10 +4,6 @@ use mathlib.Core.Path.{_≡_}
 use borrow.Author.Needs.{needs}
 use Rattle.dimacs.proofs.spot.Statement.{statement}
 use Rattle.dimacs.proofs.spot.Tie as tie
-use Rattle.dimacs.proofs.spot.Reads as reads
-use Rattle.dimacs.proofs.spot.Lts as lts
-use Rattle.dimacs.proofs.between.Reads as between-reads
-use Rattle.dimacs.proofs.order_at.Reads as order-at-reads
 
 returns : tie.Need-returns
 returns c = search needs

@@ -1,12 +1,8 @@
 use Prim.Native.Nat.{_≤_, _-_}
-use mathlib.Core.Path.{_≡_}
 use lib.ListN.{length}
 use borrow.Author.Needs.{needs}
 use Rattle.form_cases.proofs.same_words.Statement.{statement}
 use Rattle.form_cases.proofs.same_words.Tie as tie
-use Rattle.form_cases.proofs.same_words.Reads as reads
-use Rattle.form_cases.proofs.same_words.Lts as lts
-use Rattle.words.proofs.same_at.Reads as same-at-reads
 
 abbrev Inv-loop : tie.InvT-loop
 Inv-loop us ws i₀ i = i ≤ length us
@@ -14,35 +10,27 @@ Inv-loop us ws i₀ i = i ≤ length us
 abbrev μ-loop : tie.MeasureT-loop
 μ-loop us ws i₀ i = length us - i
 
--- src/main.rt:52:9
 returns : tie.Need-returns Inv-loop μ-loop
 returns c = search needs
 
--- src/main.rt:55:5
 loop-holds : tie.Need-loop-holds Inv-loop μ-loop
 loop-holds c = search needs
 
--- src/main.rt:56:12
 same-at-requires : tie.Need-same-at-requires Inv-loop μ-loop
 same-at-requires c κs = search needs
 
--- src/main.rt:57:17
 add-i : tie.Need-add-i Inv-loop μ-loop
 add-i c = search needs
 
--- src/main.rt:55:5
 loop-less : tie.Need-loop-less Inv-loop μ-loop
 loop-less c = search needs
 
--- src/main.rt:55:5
 loop-again : tie.Need-loop-again Inv-loop μ-loop
 loop-again c = search needs
 
--- src/main.rt:59:13
 returns-2 : tie.Need-returns-2 Inv-loop μ-loop
 returns-2 c = search needs
 
--- src/main.rt:50:1
 returns-3 : tie.Need-returns-3 Inv-loop μ-loop
 returns-3 c = search needs
 

@@ -4,9 +4,6 @@ use lib.ListN.{length}
 use borrow.Author.Needs.{needs}
 use Rattle.form_cases.proofs.unpack.Statement.{statement}
 use Rattle.form_cases.proofs.unpack.Tie as tie
-use Rattle.form_cases.proofs.unpack.Reads as reads
-use Rattle.form_cases.proofs.unpack.Lts as lts
-use Rattle.words.proofs.word_of.Reads as word-of-reads
 
 abbrev Inv-loop : tie.InvT-loop
 Inv-loop bytes words₀ stored i₀ last₀ words i last = (i ≤ length words₀) × (length words ≡ length words₀)
@@ -14,59 +11,45 @@ Inv-loop bytes words₀ stored i₀ last₀ words i last = (i ≤ length words�
 abbrev μ-loop : tie.MeasureT-loop
 μ-loop bytes words₀ stored i₀ last₀ words i last = length words₀ - i
 
--- src/main.rt:29:5
 loop-holds : tie.Need-loop-holds Inv-loop μ-loop
 loop-holds c = search needs
 
--- src/main.rt:31:41
 mul-word-of : tie.Need-mul-word-of Inv-loop μ-loop
 mul-word-of c = search needs
 
--- src/main.rt:31:35
 shared-slice-read-word-of : tie.Need-shared-slice-read-word-of Inv-loop μ-loop
 shared-slice-read-word-of c = search needs
 
--- src/main.rt:31:55
 mul-word-of-2 : tie.Need-mul-word-of-2 Inv-loop μ-loop
 mul-word-of-2 c = search needs
 
--- src/main.rt:31:55
 add-word-of : tie.Need-add-word-of Inv-loop μ-loop
 add-word-of c = search needs
 
--- src/main.rt:31:49
 shared-slice-read-word-of-2 : tie.Need-shared-slice-read-word-of-2 Inv-loop μ-loop
 shared-slice-read-word-of-2 c = search needs
 
--- src/main.rt:31:13
 word-of-requires : tie.Need-word-of-requires Inv-loop μ-loop
 word-of-requires c κs = search needs
 
--- src/main.rt:33:9
 mul-last : tie.Need-mul-last Inv-loop μ-loop
 mul-last c = search needs
 
--- src/main.rt:33:9
 slice-set-from-last : tie.Need-slice-set-from-last Inv-loop μ-loop
 slice-set-from-last c = search needs
 
--- src/main.rt:34:13
 add-i : tie.Need-add-i Inv-loop μ-loop
 add-i c = search needs
 
--- src/main.rt:29:5
 loop-less : tie.Need-loop-less Inv-loop μ-loop
 loop-less c = search needs
 
--- src/main.rt:29:5
 loop-again : tie.Need-loop-again Inv-loop μ-loop
 loop-again c = search needs
 
--- src/main.rt:25:1
 same-length : tie.Need-same-length Inv-loop μ-loop
 same-length c = search needs
 
--- src/main.rt:25:1
 returns : tie.Need-returns Inv-loop μ-loop
 returns c = search needs
 

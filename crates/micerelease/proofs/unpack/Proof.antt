@@ -2,7 +2,7 @@
 use mathlib.Core.Path.{_≡_}
 use Prim.Native.Nat.{_≤_, _-_}
 use native.Mathlib.Omega.{arith}
-use lib.ListN.{length, length-set}
+use lib.ListN.{length}
 use Rattle.io.proofs.Counting.{counts}
 use borrow.Author.Needs.{needs}
 use Rattle.micerelease.proofs.unpack.Statement.{statement}

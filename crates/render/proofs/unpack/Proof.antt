@@ -3,12 +3,12 @@ use mir.Syntax.{w16}
 use mathlib.Core.Path.{_≡_, refl, sym, ap, _∙_}
 use Prim.Native.Nat.{_+_, _*_, _-_, _/_, _≤_, _<_}
 use native.Mathlib.Omega.{arith}
-use lib.ListN.{length, take, drop, length-set}
+use lib.ListN.{length, take, drop, getD, length-set}
 use lib.Seq.{sets, take-at}
 use mir.Facts.{toZ-ofZ}
 use Rattle.meaning.specs.Lines.{wordsOf}
 use Rattle.meaning.specs.Promise.{over}
-use Rattle.render.proofs.Words.{word-turn, no-word, word-count}
+use Rattle.render.proofs.Words.{word-is, word-turn, no-word, word-count}
 use Rattle.render.proofs.Sets.{sets-over}
 use Rattle.render.proofs.unpack.Statement.{statement}
 use Rattle.render.proofs.unpack.Tie as tie
@@ -25,23 +25,23 @@ abbrev μ-loop : tie.MeasureT-loop
 loop-holds : tie.Need-loop-holds Inv-loop μ-loop
 loop-holds c = (omega arith, refl, refl)
 
-mul-word : tie.Need-mul-word Inv-loop μ-loop
-mul-word c = omega arith
+mul-word-of : tie.Need-mul-word-of Inv-loop μ-loop
+mul-word-of c = omega arith
 
-shared-slice-read-word : tie.Need-shared-slice-read-word Inv-loop μ-loop
-shared-slice-read-word c = omega arith
+shared-slice-read-word-of : tie.Need-shared-slice-read-word-of Inv-loop μ-loop
+shared-slice-read-word-of c = omega arith
 
-mul-word-2 : tie.Need-mul-word-2 Inv-loop μ-loop
-mul-word-2 c = omega arith
+mul-word-of-2 : tie.Need-mul-word-of-2 Inv-loop μ-loop
+mul-word-of-2 c = omega arith
 
-add-word : tie.Need-add-word Inv-loop μ-loop
-add-word c = omega arith
+add-word-of : tie.Need-add-word-of Inv-loop μ-loop
+add-word-of c = omega arith
 
-shared-slice-read-word-2 : tie.Need-shared-slice-read-word-2 Inv-loop μ-loop
-shared-slice-read-word-2 c = omega arith
+shared-slice-read-word-of-2 : tie.Need-shared-slice-read-word-of-2 Inv-loop μ-loop
+shared-slice-read-word-of-2 c = omega arith
 
-word-requires : tie.Need-word-requires Inv-loop μ-loop
-word-requires c κs = tt
+word-of-requires : tie.Need-word-of-requires Inv-loop μ-loop
+word-of-requires c κs = tt
 
 mul-t15 : tie.Need-mul-t15 Inv-loop μ-loop
 mul-t15 c = omega arith
@@ -60,7 +60,7 @@ loop-again c =
     let l = c .before .before .before .before in
     let bytes = l .before .before .args .bytes .now in
     let more : 2 * (l .loop .i) + 1 < length bytes = omega arith in
-    (omega arith, simp length-set (l .loop .inv .1), word-turn (l .loop .words) bytes (l .loop .i) more (toZ-ofZ {w = w16} (record { sfits = c .word .ok }) ∙ c .word .ensures) ∙ l .loop .inv .2)
+    (omega arith, simp length-set (l .loop .inv .1), word-turn (l .loop .words) bytes (l .loop .i) more (toZ-ofZ {w = w16} (record { sfits = c .word-of .ok }) ∙ word-is (getD bytes (2 * (l .loop .i)) 0) (getD bytes (2 * (l .loop .i) + 1) 0) (c .word-of .ensures)) ∙ l .loop .inv .2)
 
 same-length : tie.Need-same-length Inv-loop μ-loop
 same-length c = omega arith
@@ -84,12 +84,12 @@ unpack-spec =
     Inv-loop
     μ-loop
     loop-holds
-    mul-word
-    shared-slice-read-word
-    mul-word-2
-    add-word
-    shared-slice-read-word-2
-    word-requires
+    mul-word-of
+    shared-slice-read-word-of
+    mul-word-of-2
+    add-word-of
+    shared-slice-read-word-of-2
+    word-of-requires
     mul-t15
     slice-set-from-words
     add-i

@@ -1,13 +1,8 @@
-use Prim.Native.Nat.{_-_, _≤_, _<_}
-use mathlib.Core.Path.{_≡_}
+use Prim.Native.Nat.{_-_, _≤_}
 use lib.ListN.{length}
 use borrow.Author.Needs.{needs}
 use Rattle.text_cases.proofs.as_expected.Statement.{statement}
 use Rattle.text_cases.proofs.as_expected.Tie as tie
-use Rattle.text_cases.proofs.as_expected.Reads as reads
-use Rattle.text_cases.proofs.as_expected.Lts as lts
-use Rattle.text_cases.proofs.get16.Reads as get16-reads
-use Rattle.text_cases.proofs.word.Reads as word-reads
 
 abbrev Inv-loop : tie.InvT-loop
 Inv-loop room words expected i₀ i = i ≤ length room

@@ -1,12 +1,7 @@
-use Prim.Native.Nat.{_-_, _≤_, _<_}
+use Prim.Native.Nat.{_-_, _≤_}
 use borrow.Author.Needs.{needs}
 use Rattle.text_cases.proofs.run_all.Statement.{statement}
 use Rattle.text_cases.proofs.run_all.Tie as tie
-use Rattle.text_cases.proofs.run_all.Reads as reads
-use Rattle.text_cases.proofs.run_all.Lts as lts
-use Rattle.io.proofs.print_decimal.Reads as print-decimal-reads
-use Rattle.io.proofs.write_all.Reads as write-all-reads
-use Rattle.text_cases.proofs.run_case.Reads as run-case-reads
 
 abbrev Inv-loop : tie.InvT-loop
 Inv-loop fd cases₀ wrong₀ t4 t5 cases wrong = (cases ≤ 1000000) × (wrong ≤ cases)

@@ -1,15 +1,9 @@
-use Prim.Native.Nat.{_-_, _≤_, _<_}
+use Prim.Native.Nat.{_-_}
 use mathlib.Core.Path.{_≡_}
 use lib.ListN.{length}
 use borrow.Author.Needs.{needs}
 use Rattle.text_cases.proofs.unpack.Statement.{statement}
 use Rattle.text_cases.proofs.unpack.Tie as tie
-use Rattle.text_cases.proofs.unpack.Reads as reads
-use Rattle.text_cases.proofs.unpack.Lts as lts
-use Rattle.text_cases.proofs.get.Reads as get-reads
-use Rattle.text_cases.proofs.get16.Reads as get16-reads
-use Rattle.text_cases.proofs.unpack_run.Reads as unpack-run-reads
-use Rattle.text_cases.proofs.wide.Reads as wide-reads
 
 abbrev Inv-loop : tie.InvT-loop
 Inv-loop packed text₀ from₀ at₀ text from at = length text ≡ length text₀

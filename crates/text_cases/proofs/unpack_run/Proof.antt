@@ -1,14 +1,9 @@
-use Prim.Native.Nat.{_-_, _≤_, _<_}
+use Prim.Native.Nat.{_-_, _≤_}
 use mathlib.Core.Path.{_≡_}
 use lib.ListN.{length}
 use borrow.Author.Needs.{needs}
 use Rattle.text_cases.proofs.unpack_run.Statement.{statement}
 use Rattle.text_cases.proofs.unpack_run.Tie as tie
-use Rattle.text_cases.proofs.unpack_run.Reads as reads
-use Rattle.text_cases.proofs.unpack_run.Lts as lts
-use Rattle.text_cases.proofs.get.Reads as get-reads
-use Rattle.text_cases.proofs.put.Reads as put-reads
-use Rattle.text_cases.proofs.unpacked.Reads as unpacked-reads
 
 abbrev Inv-loop : tie.InvT-loop
 Inv-loop packed kind from count far text₀ at i₀ text i = (i ≤ count) × (length text ≡ length text₀)

@@ -1,11 +1,8 @@
 use Rattle.tokens.specs.Numbers.{isDigit}
 use borrow.Author.Tests.{le-leb, lt-leb}
-use mathlib.Core.Path.{_∙_}
 use borrow.Author.Needs.{needs}
 use Rattle.tokens.proofs.digit.Statement.{statement}
 use Rattle.tokens.proofs.digit.Tie as tie
-use Rattle.tokens.proofs.digit.Reads as reads
-use Rattle.tokens.proofs.digit.Lts as lts
 
 returns : tie.Need-returns
 unfolding isDigit

@@ -3,13 +3,9 @@ use Rattle.tokens.specs.Numbers.{Running}
 use lib.ListN.{length}
 use borrow.Author.Needs.{needs}
 use native.Mathlib.Omega.{arith}
-use mathlib.Core.Path.{_≡_, refl, sym, _∙_}
-use Prim.Native.Nat.{_-_, _≤_, _<_}
+use Prim.Native.Nat.{_-_}
 use Rattle.tokens.proofs.digits_from.Statement.{statement}
 use Rattle.tokens.proofs.digits_from.Tie as tie
-use Rattle.tokens.proofs.digits_from.Reads as reads
-use Rattle.tokens.proofs.digits_from.Lts as lts
-use Rattle.tokens.proofs.digit.Reads as digit-reads
 
 abbrev Inv-loop : tie.InvT-loop
 Inv-loop text start value₀ at₀ value at = Running text start value at

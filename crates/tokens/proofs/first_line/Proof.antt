@@ -8,10 +8,6 @@ use mathlib.Core.Path.{_≡_}
 use Prim.Native.Nat.{_-_, _≤_}
 use Rattle.tokens.proofs.first_line.Statement.{statement}
 use Rattle.tokens.proofs.first_line.Tie as tie
-use Rattle.tokens.proofs.first_line.Reads as reads
-use Rattle.tokens.proofs.first_line.Lts as lts
-use Rattle.tokens.proofs.line_end.Reads as line-end-reads
-use Rattle.tokens.proofs.solid.Reads as solid-reads
 
 abbrev Inv-loop : tie.InvT-loop
 Inv-loop text at₀ at = (at ≤ length text) × (lines text ≡ linesAt text at)

@@ -1,15 +1,8 @@
 use Rattle.tokens.proofs.Heads.{p-within, cnf-within, header-p-no, header-cnf-no, header-yes}
-use Rattle.tokens.specs.Header.{headRead}
-use mathlib.Core.Path.{sym, ap, _∙_}
+use mathlib.Core.Path.{sym, _∙_}
 use borrow.Author.Needs.{needs}
 use Rattle.tokens.proofs.header_of.Statement.{statement}
 use Rattle.tokens.proofs.header_of.Tie as tie
-use Rattle.tokens.proofs.header_of.Reads as reads
-use Rattle.tokens.proofs.header_of.Lts as lts
-use Rattle.tokens.proofs.cnf_stands.Reads as cnf-stands-reads
-use Rattle.tokens.proofs.next.Reads as next-reads
-use Rattle.tokens.proofs.p_stands.Reads as p-stands-reads
-use Rattle.tokens.proofs.sizes.Reads as sizes-reads
 
 p-stands-requires : tie.Need-p-stands-requires
 p-stands-requires c κs = search needs

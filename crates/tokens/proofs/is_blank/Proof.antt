@@ -1,8 +1,6 @@
 use borrow.Author.Tests.{ne-eqb}
 use Rattle.tokens.proofs.is_blank.Statement.{statement}
 use Rattle.tokens.proofs.is_blank.Tie as tie
-use Rattle.tokens.proofs.is_blank.Reads as reads
-use Rattle.tokens.proofs.is_blank.Lts as lts
 
 returns : tie.Need-returns
 returns c = simp (c .if1 .taken)

@@ -6,8 +6,6 @@ use mathlib.Core.Path.{_≡_, refl, sym, _∙_}
 use Prim.Native.Nat.{_-_}
 use Rattle.tokens.proofs.line_end.Statement.{statement}
 use Rattle.tokens.proofs.line_end.Tie as tie
-use Rattle.tokens.proofs.line_end.Reads as reads
-use Rattle.tokens.proofs.line_end.Lts as lts
 
 abbrev Inv-loop : tie.InvT-loop
 Inv-loop text start at₀ at = lineEnd text at ≡ lineEnd text start

@@ -5,13 +5,9 @@ use borrow.Author.Tests.{ne-eqb}
 use borrow.Author.Needs.{needs}
 use native.Mathlib.Omega.{arith}
 use mathlib.Core.Path.{_≡_, refl, sym, _∙_}
-use Prim.Native.Nat.{_-_, _≤_, _<_}
+use Prim.Native.Nat.{_-_, _≤_}
 use Rattle.tokens.proofs.next.Statement.{statement}
 use Rattle.tokens.proofs.next.Tie as tie
-use Rattle.tokens.proofs.next.Reads as reads
-use Rattle.tokens.proofs.next.Lts as lts
-use Rattle.tokens.proofs.is_blank.Reads as is-blank-reads
-use Rattle.tokens.proofs.past_comment.Reads as past-comment-reads
 
 abbrev Inv-loop : tie.InvT-loop
 Inv-loop text start at₀ at = (start ≤ at) × (at ≤ length text) × (tokensFrom text start ≡ tokensFrom text at)

@@ -1,16 +1,10 @@
 use Rattle.tokens.proofs.Numbers.{digitsAt, digits-within, signed-not, signed-is, minus-zero}
 use Rattle.tokens.specs.Numbers.{numeralRead}
 use Rattle.tokens.specs.declared.Numeral.{Numeral}
-use native.Mathlib.Omega.{arith}
-use mathlib.Core.Path.{_≡_, sym, subst, _∙_}
+use mathlib.Core.Path.{_≡_, sym, subst}
 use borrow.Author.Needs.{needs}
 use Rattle.tokens.proofs.number_at.Statement.{statement}
 use Rattle.tokens.proofs.number_at.Tie as tie
-use Rattle.tokens.proofs.number_at.Reads as reads
-use Rattle.tokens.proofs.number_at.Lts as lts
-use Rattle.tokens.proofs.numeral_at.Reads as numeral-at-reads
-use Rattle.tokens.proofs.past_minus.Reads as past-minus-reads
-use Rattle.tokens.proofs.stands_at.Reads as stands-at-reads
 
 -- what was read behind the sign
 behind : (c : tie.After-numeral-at) (o : Numeral) → c .numeral-at .result ≡ o → numeralRead (c .before .before .before .before .args .text .now) (digitsAt (c .before .before .stands-at .result) (c .before .before .before .before .args .at)) o

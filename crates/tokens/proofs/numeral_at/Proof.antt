@@ -1,14 +1,8 @@
 use Rattle.tokens.proofs.Numbers.{no-digit, one-digit, more-digits, leading-zero, numeral-not}
-use native.Mathlib.Omega.{arith}
 use mathlib.Core.Path.{sym, _∙_}
 use borrow.Author.Needs.{needs}
 use Rattle.tokens.proofs.numeral_at.Statement.{statement}
 use Rattle.tokens.proofs.numeral_at.Tie as tie
-use Rattle.tokens.proofs.numeral_at.Reads as reads
-use Rattle.tokens.proofs.numeral_at.Lts as lts
-use Rattle.tokens.proofs.digits_from.Reads as digits-from-reads
-use Rattle.tokens.proofs.parted_at.Reads as parted-at-reads
-use Rattle.tokens.proofs.stands_at.Reads as stands-at-reads
 
 digits-from-requires : tie.Need-digits-from-requires
 digits-from-requires c κs = search needs

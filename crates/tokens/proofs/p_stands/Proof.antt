@@ -5,10 +5,6 @@ use mathlib.Core.Path.{sym, _∙_}
 use borrow.Author.Needs.{needs}
 use Rattle.tokens.proofs.p_stands.Statement.{statement}
 use Rattle.tokens.proofs.p_stands.Tie as tie
-use Rattle.tokens.proofs.p_stands.Reads as reads
-use Rattle.tokens.proofs.p_stands.Lts as lts
-use Rattle.tokens.proofs.parted_at.Reads as parted-at-reads
-use Rattle.tokens.proofs.stands_at.Reads as stands-at-reads
 
 stands-at-requires : tie.Need-stands-at-requires
 stands-at-requires c κs = search needs

@@ -4,9 +4,6 @@ use mathlib.Core.Path.{_∙_}
 use borrow.Author.Needs.{needs}
 use Rattle.tokens.proofs.parted_at.Statement.{statement}
 use Rattle.tokens.proofs.parted_at.Tie as tie
-use Rattle.tokens.proofs.parted_at.Reads as reads
-use Rattle.tokens.proofs.parted_at.Lts as lts
-use Rattle.tokens.proofs.is_blank.Reads as is-blank-reads
 
 shared-slice-read-b : tie.Need-shared-slice-read-b
 shared-slice-read-b c = search needs

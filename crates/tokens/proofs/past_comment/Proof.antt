@@ -4,10 +4,6 @@ use mathlib.Core.Path.{sym, _∙_}
 use borrow.Author.Needs.{needs}
 use Rattle.tokens.proofs.past_comment.Statement.{statement}
 use Rattle.tokens.proofs.past_comment.Tie as tie
-use Rattle.tokens.proofs.past_comment.Reads as reads
-use Rattle.tokens.proofs.past_comment.Lts as lts
-use Rattle.tokens.proofs.line_end.Reads as line-end-reads
-use Rattle.tokens.proofs.stands_at.Reads as stands-at-reads
 
 stands-at-requires : tie.Need-stands-at-requires
 stands-at-requires c κs = search needs

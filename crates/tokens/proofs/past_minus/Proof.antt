@@ -1,9 +1,6 @@
-use mathlib.Core.Bool.{cond}
 use borrow.Author.Needs.{needs}
 use Rattle.tokens.proofs.past_minus.Statement.{statement}
 use Rattle.tokens.proofs.past_minus.Tie as tie
-use Rattle.tokens.proofs.past_minus.Reads as reads
-use Rattle.tokens.proofs.past_minus.Lts as lts
 
 add-result : tie.Need-add-result
 add-result c = search needs

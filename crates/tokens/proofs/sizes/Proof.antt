@@ -1,14 +1,10 @@
 use Rattle.tokens.proofs.Heads.{read-within, sizes-first, sizes-second, sizes-more, sizes-n, sizes-m, sizes-ok}
 use Rattle.tokens.specs.Numbers.{numeralRead}
 use Rattle.tokens.specs.declared.Numeral.the-variants as numerals
-use mathlib.Core.Path.{_≡_, sym, subst, _∙_}
+use mathlib.Core.Path.{subst}
 use borrow.Author.Needs.{needs}
 use Rattle.tokens.proofs.sizes.Statement.{statement}
 use Rattle.tokens.proofs.sizes.Tie as tie
-use Rattle.tokens.proofs.sizes.Reads as reads
-use Rattle.tokens.proofs.sizes.Lts as lts
-use Rattle.tokens.proofs.next.Reads as next-reads
-use Rattle.tokens.proofs.numeral_at.Reads as numeral-at-reads
 
 -- the two numbers that were read
 first : (c : tie.After-n) → numeralRead (c .before .before .before .before .before .args .line .now) (c .before .before .before .next .result) (numerals.Is (c .n .given .0 .0) (c .n .given .0 .1 .0))

@@ -3,10 +3,6 @@ use mathlib.Core.Path.{sym, _∙_}
 use borrow.Author.Needs.{needs}
 use Rattle.tokens.proofs.solid.Statement.{statement}
 use Rattle.tokens.proofs.solid.Tie as tie
-use Rattle.tokens.proofs.solid.Reads as reads
-use Rattle.tokens.proofs.solid.Lts as lts
-use Rattle.tokens.proofs.next.Reads as next-reads
-use Rattle.tokens.proofs.stands_at.Reads as stands-at-reads
 
 stands-at-requires : tie.Need-stands-at-requires
 stands-at-requires c κs = search needs

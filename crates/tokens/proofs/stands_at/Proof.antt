@@ -3,8 +3,6 @@ use borrow.Author.Tests.{lt-ltb, le-ltb}
 use borrow.Author.Needs.{needs}
 use Rattle.tokens.proofs.stands_at.Statement.{statement}
 use Rattle.tokens.proofs.stands_at.Tie as tie
-use Rattle.tokens.proofs.stands_at.Reads as reads
-use Rattle.tokens.proofs.stands_at.Lts as lts
 
 shared-slice-read-result : tie.Need-shared-slice-read-result
 shared-slice-read-result c = search needs
