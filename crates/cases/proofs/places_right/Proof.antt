@@ -1,0 +1,53 @@
+use Prim.Native.Nat.{_≤_, _-_}
+use borrow.Author.Needs.{needs}
+use Rattle.cases.proofs.places_right.Statement.{statement}
+use Rattle.cases.proofs.places_right.Tie as tie
+
+abbrev Inv-loop : tie.InvT-loop
+Inv-loop all first written i₀ i = i ≤ 1024
+
+abbrev μ-loop : tie.MeasureT-loop
+μ-loop all first written i₀ i = 1024 - i
+
+loop-holds : tie.Need-loop-holds Inv-loop μ-loop
+loop-holds c = search needs
+
+mul-if1 : tie.Need-mul-if1 Inv-loop μ-loop
+mul-if1 c = search needs
+
+element-copy-out-if1 : tie.Need-element-copy-out-if1 Inv-loop μ-loop
+element-copy-out-if1 c = search needs
+
+after-requires : tie.Need-after-requires Inv-loop μ-loop
+after-requires c κs = search needs
+
+add-i : tie.Need-add-i Inv-loop μ-loop
+add-i c = search needs
+
+loop-less : tie.Need-loop-less Inv-loop μ-loop
+loop-less c = search needs
+
+loop-again : tie.Need-loop-again Inv-loop μ-loop
+loop-again c = search needs
+
+returns : tie.Need-returns Inv-loop μ-loop
+returns c = search needs
+
+returns-2 : tie.Need-returns-2 Inv-loop μ-loop
+returns-2 c = search needs
+
+pub places-right-spec : {M : Type 1} → statement M
+places-right-spec =
+    tie.close
+    (tie.spec
+    Inv-loop
+    μ-loop
+    loop-holds
+    mul-if1
+    element-copy-out-if1
+    after-requires
+    add-i
+    loop-less
+    loop-again
+    returns
+    returns-2)
