@@ -204,7 +204,7 @@ fn words_of(part: &[u8]) -> [i16; 65536] {
     let end = least(half, WORDS);
     let mut i: usize = 0;
     while i < end {
-        words[i] = words::word_of(part[i], part[half + i]);
+        words[i] = words::word_of(get(part, i), get(part, half + i));
         i = i + 1;
     }
     words
@@ -286,44 +286,58 @@ fn read_right(
     room: &mut [i16],
     answer: &mut [u64],
     number: usize,
-    expected: &[i16],
+    words_after: &[i16],
 ) -> bool {
     let returned = mice::mice_read(text, room, answer);
-    (returned == number as u64) & same_words(room, expected)
+    (returned == number as u64) & same_words(room, words_after)
 }
 
-// A check with its room of count places and its answer slice.
+// A check with so many places of a count room and an answer slice, the number it returns and what they hold afterwards.
 fn check_right(
     formula: &[i16],
     trace: &[i16],
-    case: Case,
-    answered: &[u8],
-    counted: &[u8],
+    count_places: usize,
+    answer_places: usize,
+    number: usize,
+    answer_after: &[u8],
+    counts_after: &[u8],
 ) -> bool {
     let mut counts = places(COUNT_BEFORE);
     let mut answer = places(ANSWER_BEFORE);
-    let room = least(case.room, PLACES);
-    let short = least(case.answer, PLACES);
-    let returned = check(formula, trace, &mut counts[0..room], &mut answer[0..short]);
-    (returned == case.number as u64)
-        & places_right(&counts, COUNT_BEFORE, counted)
-        & places_right(&answer, ANSWER_BEFORE, answered)
+    let count_end = least(count_places, PLACES);
+    let answer_end = least(answer_places, PLACES);
+    let returned = check(
+        formula,
+        trace,
+        &mut counts[0..count_end],
+        &mut answer[0..answer_end],
+    );
+    (returned == number as u64)
+        & places_right(&counts, COUNT_BEFORE, counts_after)
+        & places_right(&answer, ANSWER_BEFORE, answer_after)
 }
 
-// A text with its room of words and its answer slice.
-fn text_right(text: &[u8], case: Case, answered: &[u8], expected: &[i16]) -> bool {
+// A text with so many places of a word room and an answer slice, the number its reading returns and what they hold afterwards.
+fn text_right(
+    text: &[u8],
+    word_places: usize,
+    answer_places: usize,
+    number: usize,
+    answer_after: &[u8],
+    words_after: &[i16],
+) -> bool {
     let mut words = word_room();
     let mut answer = places(ANSWER_BEFORE);
-    let room = least(case.room, WORDS);
-    let short = least(case.answer, PLACES);
+    let word_end = least(word_places, WORDS);
+    let answer_end = least(answer_places, PLACES);
     let right = read_right(
         text,
-        &mut words[0..room],
-        &mut answer[0..short],
-        case.number,
-        expected,
+        &mut words[0..word_end],
+        &mut answer[0..answer_end],
+        number,
+        words_after,
     );
-    right & places_right(&answer, ANSWER_BEFORE, answered)
+    right & places_right(&answer, ANSWER_BEFORE, answer_after)
 }
 
 // An entry's words and the part of the trace that is expected.
@@ -338,15 +352,31 @@ fn entry_right(formula: &[i16], trace: &[i16], asked: &[u8]) -> bool {
 // The unpacked case is as expected.
 fn case_right(window: &[u8], case: Case) -> bool {
     let words = words_of(part(window, case.words_at, case.answer_at));
-    let answered = part(window, case.answer_at, case.rest_at);
+    let answer_after = part(window, case.answer_at, case.rest_at);
     let rest = part(window, case.rest_at, case.end);
     if case.kind == TEXT {
-        return text_right(rest, case, answered, words_part(&words, 0, case.room));
+        let words_after = words_part(&words, 0, case.room);
+        return text_right(
+            rest,
+            case.room,
+            case.answer,
+            case.number,
+            answer_after,
+            words_after,
+        );
     }
     let formula = words_part(&words, 0, case.formula);
     let trace = words_part(&words, case.formula, case.words);
     if case.kind == CHECK {
-        return check_right(formula, trace, case, answered, rest);
+        return check_right(
+            formula,
+            trace,
+            case.room,
+            case.answer,
+            case.number,
+            answer_after,
+            rest,
+        );
     }
     entry_right(formula, trace, rest)
 }
@@ -439,11 +469,18 @@ fn say_number(number: usize, right: u64, wrong: u64) {
 
 // A line for each number.
 fn say_all(tally: &[u64; 128]) {
+    print(b"cases by refusal number: 0 is accepted, 30 an entry\n");
     let mut number: usize = 0;
     while number < NUMBERS {
         say_number(number, tally[number], tally[WRONG + number]);
         number = number + 1;
     }
+}
+
+// The last line.
+fn say_end(sum: Sum) {
+    print(b"all");
+    say_sum(sum.right as u64, sum.wrong as u64);
 }
 
 fn cleared() -> [u8; 262144] {
@@ -455,9 +492,7 @@ fn main() {
     let mut window = cleared();
     let mut tally = [0u64; TALLY];
     let sum = run_all(file, &mut window, &mut tally);
-    libc::close(file);
-    print(b"cases by refusal number: 0 is accepted, 30 an entry\n");
     say_all(&tally);
-    print(b"all");
-    say_sum(sum.right as u64, sum.wrong as u64);
+    say_end(sum);
+    libc::close(file);
 }

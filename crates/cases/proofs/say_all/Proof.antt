@@ -9,6 +9,12 @@ Inv-loop tally number₀ number = number ≤ 31
 abbrev μ-loop : tie.MeasureT-loop
 μ-loop tally number₀ number = 31 - number
 
+slice-aggregate-print : tie.Need-slice-aggregate-print Inv-loop μ-loop
+slice-aggregate-print c = search needs
+
+print-requires : tie.Need-print-requires Inv-loop μ-loop
+print-requires c κs = search needs
+
 loop-holds : tie.Need-loop-holds Inv-loop μ-loop
 loop-holds c = search needs
 
@@ -48,6 +54,8 @@ say-all-spec =
     (tie.spec
     Inv-loop
     μ-loop
+    slice-aggregate-print
+    print-requires
     loop-holds
     mul-say-number
     element-copy-out-say-number

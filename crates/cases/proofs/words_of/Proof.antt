@@ -15,14 +15,14 @@ least-requires c κs = search needs
 loop-holds : tie.Need-loop-holds Inv-loop μ-loop
 loop-holds c = search needs
 
-shared-slice-read-word-of : tie.Need-shared-slice-read-word-of Inv-loop μ-loop
-shared-slice-read-word-of c = search needs
+get-requires : tie.Need-get-requires Inv-loop μ-loop
+get-requires c κs = search needs
 
-add-word-of : tie.Need-add-word-of Inv-loop μ-loop
-add-word-of c = search needs
+add-get : tie.Need-add-get Inv-loop μ-loop
+add-get c = search needs
 
-shared-slice-read-word-of-2 : tie.Need-shared-slice-read-word-of-2 Inv-loop μ-loop
-shared-slice-read-word-of-2 c = search needs
+get-requires-2 : tie.Need-get-requires-2 Inv-loop μ-loop
+get-requires-2 c κs = search needs
 
 word-of-requires : tie.Need-word-of-requires Inv-loop μ-loop
 word-of-requires c κs = search needs
@@ -53,9 +53,9 @@ words-of-spec =
     μ-loop
     least-requires
     loop-holds
-    shared-slice-read-word-of
-    add-word-of
-    shared-slice-read-word-of-2
+    get-requires
+    add-get
+    get-requires-2
     word-of-requires
     mul-words
     array-set-from-words
