@@ -199,7 +199,7 @@ pub fn render(counts: &[u64], verdict: Verdict, buffer: &mut [u8]) -> usize
 // The whole words of a trace file, and how many they are.
 pub fn unpack(bytes: &[u8], words: &mut [i16]) -> usize
     requires { ⌜ length (now bytes) / 2 ≤ length (now words) ⌝ }
-    ensures { λ r. ⌜ Unpacked (now (bytes .entry)) r (now (words .exit)) ⌝ }
+    ensures { λ r. ⌜ Unpacked (now (bytes .entry)) (now (words .entry)) r (now (words .exit)) ⌝ }
 {
     let count = bytes.len() / 2;
     let mut i = 0;

@@ -73,6 +73,7 @@ returns c =
     let e : l .loop .words ≡ over (wordsOf (a .bytes .now)) (a .words .now) =
     sym (ap (sets (l .loop .words) (l .loop .i)) (no-word (a .bytes .now) (l .loop .i) (omega arith))) ∙ l .loop .inv .2 ∙ sets-over (wordsOf (a .bytes .now)) (a .words .now) few in
     record {
+      room-is = e;
       words-are = ap (take (length (a .bytes .now) / 2)) e ∙ take-at (wordsOf (a .bytes .now)) _ _ (word-count (a .bytes .now));
       within = omega arith;
     }
