@@ -3,10 +3,10 @@ use mathlib.Core.Path.{_≡_}
 use mathlib.Core.Bool.{Bool, not, _&&_, cond}
 use mathlib.Core.List.{List, [], _∷_, map}
 use Prim.Native.Nat.{ℕ, zero, suc, _/_, _%_}
-use lib.Dec.{eqb, leb, ltb}
+use lib.Dec.{eqb, leb}
 use lib.ListN.{length, getD, drop}
 use Rattle.meaning.specs.Lists.{all, keep, howMany, sum}
-use Rattle.meaning.specs.Promise.{over, answerPlaces}
+use Rattle.meaning.specs.Promise.{over, answerPlaces, unlessShort}
 use Rattle.release.specs.declared.Placed.{Placed}
 use Rattle.release.specs.declared.Figures.{Figures}
 use Rattle.release.specs.declared.Totals.{Totals}
@@ -131,11 +131,7 @@ abbrev pub refusalOf : Totals → ℕ
 refusalOf (Given f) = 0
 refusalOf (Refused number) = number
 
--- a slice under nine places is refused with 13 before all else, and nothing is written
-abbrev pub unlessShort : {A : Type 0} → List ℕ → A → A → A
-unlessShort report short long = cond (ltb (length report) reportPlaces) short long
-
--- the promise: the returned number and the whole report slice; further places stay
+-- the promise: the returned number and the whole report slice; further places stay, and a slice under nine is refused with 13
 pub record HostedReport (answers report : List ℕ) (number : ℕ) (report′ : List ℕ) : Type 0 where
-  pub number-is : number ≡ unlessShort report 13 (refusalOf (reportOf answers))
-  pub report-is : report′ ≡ unlessShort report report (over (reported (reportOf answers)) report)
+  pub number-is : number ≡ unlessShort reportPlaces report 13 (refusalOf (reportOf answers))
+  pub report-is : report′ ≡ unlessShort reportPlaces report report (over (reported (reportOf answers)) report)
