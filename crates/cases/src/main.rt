@@ -8,6 +8,7 @@
 // Unpacked, a case is its name and a line end; its words, all low bytes first and then all high bytes; what the answer slice's first places hold
 // afterwards, eight bytes each; and last, of a check what the count room's first places hold, of a text its bytes, and of an entry its section, its
 // number and from where to where it goes in the trace, three bytes each. Places that are not listed must hold what they held before the call.
+#![tactic(auto)]
 ghost use Rattle.std.specs.Prelude.{◌+◌, ◌≤◌, length};
 
 use libc::STDOUT_FILENO;

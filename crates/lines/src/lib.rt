@@ -1,4 +1,5 @@
 // What the program prints, from the bytes of its two files.
+#![tactic(auto)]
 ghost use Rattle.std.specs.Prelude.{◌≡◌};
 ghost use Rattle.meaning.specs.Limits.{small};
 ghost use Rattle.meaning.specs.Verdict.{by_settings};

@@ -1,5 +1,6 @@
 // The program: reads formula.cnf and trace.bin in the current folder, and prints the counts and the verdict. What it prints is
 // lines::print's; here files are read and the bytes are written once.
+#![tactic(auto)]
 ghost use Rattle.io.specs.Counts.{IsPrefixLen};
 
 use libc::STDOUT_FILENO;

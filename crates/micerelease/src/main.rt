@@ -1,5 +1,6 @@
 // A program: reads answers.bin in the current folder and prints the report over its answers. The file has numbers of eight bytes,
 // the low byte first, as mice_check leaves them in its answer slices, one answer after another.
+#![tactic(auto)]
 ghost use Rattle.std.specs.Prelude.{◌+◌, ◌*◌, ◌≤◌, ◌<◌, length};
 ghost use Rattle.io.specs.Counts.{IsPrefixLen};
 
