@@ -1,5 +1,6 @@
 // Release totals: a report over the answers of the host call, in one pass over a lent slice.
 #![tactic(auto)]
+
 ghost use Rattle.std.specs.Prelude.{◌≡◌, false, cond, List, ◌++◌, ◌∷◌, [], ◌+◌, ◌*◌, ◌≤◌, ◌<◌, leb, length};
 ghost use Rattle.meaning.specs.Promise.{answer_places};
 ghost use Rattle.release.specs.Report.{Answer, answer, answers_from, is_accepted, figures_of, most_answers, most_sum, well_formed, report_over, report_of};

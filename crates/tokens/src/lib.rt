@@ -1,5 +1,6 @@
 // DIMACS text to formula words.
 #![tactic(auto)]
+
 ghost use Rattle.std.specs.Prelude.{◌≡◌, cond, ◌+◌, ◌-◌, ◌<◌, ◌≤◌, length, drop};
 ghost use Rattle.tokens.specs.Scan.{stands, parted, line_end, word_at, tokens_from, piece, Next, Past};
 ghost use Rattle.tokens.specs.Numbers.{is_digit, Ran, NumeralRead, SignedRead};

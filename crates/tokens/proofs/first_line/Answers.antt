@@ -1,0 +1,44 @@
+use Rattle.tokens.proofs.First.{lines_all, ends_at, ends_one, found, at_end, next_line, ends_onward, no_line}
+use Rattle.tokens.specs.Header.{lines_at}
+use Rattle.meaning.specs.Text.{lines}
+use lib.ListN.{length}
+use borrow.Author.Rules.{rules}
+use native.Mathlib.Omega.{arith}
+use mathlib.Core.Path.{◌≡◌}
+use Prim.Native.Nat.{◌-◌, ◌≤◌}
+use Rattle.tokens.proofs.first_line.Goals as goal
+
+pub loop-at-init : goal.loop-at-init
+loop-at-init c = (omega arith, lines_all _)
+
+pub slice_bounds-solid-end : goal.slice_bounds-solid-end
+slice_bounds-solid-end c = ends_at _ _ c.loop-at.invariant.0 c.line_end-end.ensures
+
+pub solid-requires : goal.solid-requires
+solid-requires c = ends_one _ _ c.loop-at.invariant.0 c.line_end-end.ensures
+
+pub returns-then-solid : goal.returns-then-solid
+returns-then-solid c =
+    found _ _ c.loop-at.invariant.0 c.line_end-end.ensures c.loop-at.invariant.1 c.solid.ensures c.if-solid.true
+
+pub returns-then-end-text : goal.returns-then-end-text
+returns-then-end-text c =
+    at_end _ _ c.loop-at.invariant.0 c.line_end-end.ensures c.loop-at.invariant.1 c.solid.ensures c.if-solid.false c.if-end-text.true
+
+pub overflow_add-at : goal.overflow_add-at
+overflow_add-at c =
+    let n = next_line _ _ c.loop-at.invariant.0 c.line_end-end.ensures c.loop-at.invariant.1 c.solid.ensures c.if-solid.false c.if-end-text.false in
+    omega (arith, n.0)
+
+pub loop-at-smaller : goal.loop-at-smaller
+loop-at-smaller c =
+    let n = next_line _ _ c.loop-at.invariant.0 c.line_end-end.ensures c.loop-at.invariant.1 c.solid.ensures c.if-solid.false c.if-end-text.false in
+    omega (arith, n.0, ends_onward _ _ c.loop-at.invariant.0 c.line_end-end.ensures)
+
+pub loop-at-preserved : goal.loop-at-preserved
+loop-at-preserved c =
+    next_line _ _ c.loop-at.invariant.0 c.line_end-end.ensures c.loop-at.invariant.1 c.solid.ensures c.if-solid.false c.if-end-text.false
+
+pub returns : goal.returns
+returns c =
+    no_line c.loop-at.invariant.0 c.loop-at-test.false c.loop-at.invariant.1

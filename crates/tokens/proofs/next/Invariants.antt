@@ -1,0 +1,15 @@
+use Rattle.tokens.proofs.Places.{gap_line_end, gap_blank}
+use Rattle.tokens.specs.Scan.{tokens_from, parts}
+use lib.ListN.{length}
+use borrow.Author.Tests.{ne_eqb}
+use borrow.Author.Rules.{rules}
+use native.Mathlib.Omega.{arith}
+use mathlib.Core.Path.{◌≡◌, refl, sym, ◌∙◌}
+use Prim.Native.Nat.{◌-◌, ◌≤◌}
+use Rattle.tokens.proofs.next.Given as goal
+
+abbrev pub invariant-loop-at : goal.invariant-loop-at
+invariant-loop-at l = (l.start ≤ l.at) × (l.at ≤ length l.text) × (tokens_from l.text l.start ≡ tokens_from l.text l.at)
+
+abbrev pub decreases-loop-at : goal.decreases-loop-at
+decreases-loop-at l = length l.text - l.at
