@@ -18,7 +18,7 @@ const CHECK: usize = 1;
 
 const TEXT: usize = 2;
 
-#[derive(Drop)]
+#[derive(Clone, Copy)]
 struct Case {
     // Its kind, and the number that is to be returned; an entry has 30.
     kind: usize,
@@ -146,7 +146,7 @@ fn again(window: &mut [u8], from: usize, to: usize, end: usize)
 }
 
 // How many bytes of a run follow, how many are copied, and from where.
-#[derive(Drop)]
+#[derive(Clone, Copy)]
 struct Run {
     plain: usize,
     copied: usize,
@@ -428,7 +428,7 @@ fn run_next(file: i32, window: &mut [u8]) -> usize {
 }
 
 // How many cases were right and how many wrong.
-#[derive(Drop)]
+#[derive(Clone, Copy)]
 struct Sum {
     right: usize,
     wrong: usize,

@@ -23,14 +23,14 @@ pub const ANSWERS_FORM: u64 = 33;
 const SUM_LARGE: u64 = 34;
 
 // A total, and the first place that has it; both 0 where no answer is accepted.
-#[derive(Drop)]
+#[derive(Clone, Copy)]
 pub struct Placed {
     pub total: u64,
     pub place: u64,
 }
 
 // The figures of a report.
-#[derive(Drop)]
+#[derive(Clone, Copy)]
 pub struct Figures {
     pub accepted: u64,
     pub refused: u64,
@@ -40,7 +40,7 @@ pub struct Figures {
 }
 
 // What is answered: the figures, or a refusal number.
-#[derive(Drop)]
+#[derive(Clone, Copy)]
 pub enum Totals {
     Given(Figures),
     Refused(u64),

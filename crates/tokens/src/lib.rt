@@ -101,21 +101,21 @@ pub fn next(text: &[u8], start: usize) -> usize
 // ---- numbers
 
 // The value of the digits up to end.
-#[derive(Drop)]
+#[derive(Clone, Copy)]
 struct Run {
     value: usize,
     end: usize,
 }
 
 // An unsigned number, and where its token ends.
-#[derive(Drop)]
+#[derive(Clone, Copy)]
 enum Numeral {
     Is(usize, usize),
     Not,
 }
 
 // A number with its sign, and where its token ends.
-#[derive(Drop)]
+#[derive(Clone, Copy)]
 pub enum Signed {
     Is(usize, bool, usize),
     Not,
@@ -212,7 +212,7 @@ pub fn number_at(text: &[u8], at: usize) -> Signed
 // ---- the header
 
 // n and m.
-#[derive(Drop)]
+#[derive(Clone, Copy)]
 pub enum Header {
     Sizes(usize, usize),
     Bad,
