@@ -1,5 +1,6 @@
 // DIMACS text to formula words.
 #![tactic(auto)]
+
 ghost use Rattle.std.specs.Prelude.{◌≡◌, ◌&&◌, ◌+◌, ◌-◌, ◌<◌, ◌≤◌, ltb, eqb, ◌∷◌, [], length, take, pos};
 ghost use Rattle.tokens.specs.Numbers.{literal_of};
 ghost use Rattle.meaning.specs.Limits.{small};

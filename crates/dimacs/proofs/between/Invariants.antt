@@ -1,0 +1,12 @@
+use Rattle.dimacs.proofs.Buffers.{half_up, half_down, halved}
+use Rattle.dimacs.specs.Clause.{Between}
+use borrow.Author.Rules.{rules}
+use native.Mathlib.Omega.{arith}
+use Prim.Native.Nat.{◌-◌, ◌≤◌}
+use Rattle.dimacs.proofs.between.Given as goal
+
+abbrev pub invariant-loop-lo : goal.invariant-loop-lo
+invariant-loop-lo l = Between l.clause l.v l.lo l.hi × (l.hi ≤ l.high)
+
+abbrev pub decreases-loop-lo : goal.decreases-loop-lo
+decreases-loop-lo l = l.hi - l.lo

@@ -1,0 +1,14 @@
+use Rattle.dimacs.proofs.Buffers.{copied_none, copied_more, copied_length}
+use Rattle.dimacs.specs.Clause.{Copied}
+use Rattle.words.proofs.Words.{back}
+use borrow.Author.Rules.{rules}
+use native.Mathlib.Omega.{arith}
+use mathlib.Core.Path.{◌≡◌}
+use Prim.Native.Nat.{◌-◌, ◌≤◌}
+use Rattle.dimacs.proofs.copy.Given as goal
+
+abbrev pub invariant-loop-i : goal.invariant-loop-i
+invariant-loop-i l = (l.i ≤ l.count) × Copied l.from l.i l.initial.to l.at l.to
+
+abbrev pub decreases-loop-i : goal.decreases-loop-i
+decreases-loop-i l = l.count - l.i
