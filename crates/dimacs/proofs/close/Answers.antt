@@ -12,9 +12,6 @@ use Rattle.dimacs.proofs.close.Goals as goal
 pub copy-requires : goal.copy-requires
 copy-requires c = (c.requires.1, simp length-set (omega (arith, c.requires.2)))
 
-pub shape_of-words : goal.shape_of-words
-shape_of-words c = simp length-set at c.copy.auto.1.1.0
-
 pub returns : goal.returns
 returns c =
     let e : to_z w16 c.args.k ≡ pos c.args.k = to_z_pos w16 (omega (arith, c.requires.0)) in

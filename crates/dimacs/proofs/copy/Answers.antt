@@ -33,9 +33,6 @@ pub loop-i-preserved : goal.loop-i-preserved
 loop-i-preserved c =
     rw (back (record { sfits = c.to-1.given })) (omega arith, copied_more c.loop-i.invariant.1 (omega (arith, c.requires.1)) (omega (arith, c.requires.0)))
 
-pub shape_of-to : goal.shape_of-to
-shape_of-to c = copied_length c.loop-i.invariant.1 (omega (arith, c.requires.1)) (omega (arith, c.requires.0))
-
 pub returns : goal.returns
 returns c =
     let e : c.loop-i.i ≡ c.args.count = omega (arith, c.loop-i-test.false) in

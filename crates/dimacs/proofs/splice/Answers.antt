@@ -36,9 +36,6 @@ offset_bounds-clause-at c = omega (arith, c.loop-i.invariant.2, c.well_formed)
 pub bounds-clause-at : goal.bounds-clause-at
 bounds-clause-at c = omega (arith, c.loop-i.invariant.2, c.loop-i.invariant.3.as_long)
 
-pub shape_of-clause : goal.shape_of-clause
-shape_of-clause c = simp length-set c.loop-i.invariant.3.as_long
-
 pub returns : goal.returns
 returns c =
     let e : c.loop-i.i ≡ c.args.at = omega (arith, c.loop-i-test.false) in
