@@ -1,5 +1,6 @@
 // What the program prints, from the bytes of its two files.
 #![tactic(auto)]
+
 ghost use Rattle.std.specs.Prelude.{◌≡◌};
 ghost use Rattle.meaning.specs.Limits.{small};
 ghost use Rattle.meaning.specs.Verdict.{by_settings};

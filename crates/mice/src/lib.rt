@@ -1,5 +1,6 @@
 // The functions that a C host calls: numbers and lent slices only.
 #![tactic(auto)]
+
 ghost use Rattle.std.specs.Prelude.{◌≤◌, ◌≡◌, ◌∷◌, [], length};
 ghost use Rattle.meaning.specs.Limits.{small};
 ghost use Rattle.meaning.specs.Promise.{answer_places, answer_of, number_of, over, Hosted, HostedText};

@@ -1,6 +1,7 @@
 // Lines rendered into a lent buffer, and the words of a file's bytes. Lines are written from the last byte to the first, since a number's
 // digits come from the last to the first; so the bytes needed are counted before.
 #![tactic(auto)]
+
 ghost use Rattle.std.specs.Prelude.{◌≡◌, ◌++◌, ◌+◌, ◌/◌, ◌<◌, ◌≤◌, length};
 ghost use Rattle.meaning.specs.Limits.{small};
 ghost use Rattle.meaning.specs.Lines.{count_lines, last_line};

@@ -1,0 +1,17 @@
+use mathlib.Core.Path.{◌≡◌, ap}
+use mathlib.Core.List.{[]}
+use Prim.Native.Nat.{◌+◌, ◌*◌, ◌-◌, ◌≤◌, ◌<◌}
+use native.Mathlib.Omega.{arith}
+use lib.ListN.{length, drop, drop_of_length-le}
+use Rattle.render.proofs.Lines.{first_line}
+use Rattle.render.specs.Shown.{claim_lines}
+use Rattle.render.proofs.claims_width.Given as goal
+
+-- `render::claims_width` meets its contract: the bytes counted and those of the lines left are the lines'. Assumes nothing.
+abbrev pub invariant-loop-i : goal.invariant-loop-i
+invariant-loop-i l = (l.i ≤ length l.counts)
+    × (l.needed ≤ 54 * l.i)
+    × (l.needed + length (claim_lines (l.i + 1) (drop l.i l.counts)) ≡ length (claim_lines 1 l.counts))
+
+abbrev pub decreases-loop-i : goal.decreases-loop-i
+decreases-loop-i l = length l.counts - l.i

@@ -1,0 +1,19 @@
+use Rattle.render.specs.Shown.{shown, named}
+use Rattle.render.proofs.Sets.{two_parts, room_last, room_rest}
+use borrow.Author.Rules.{rules}
+use Rattle.render.proofs.put_named.Goals as goal
+
+-- `render::put_named` meets its contract: the number finds room, and what it is before it. Assumes nothing.
+pub put_number-middle-requires : goal.put_number-middle-requires
+unfolding named
+put_number-middle-requires c =
+    room_last c.args.name.now (shown c.args.value) c.requires
+
+pub put_text-requires : goal.put_text-requires
+unfolding named
+put_text-requires c =
+    room_rest c.args.name.now (shown c.args.value) c.requires c.put_number-middle.ensures
+
+pub returns : goal.returns
+unfolding named
+returns c = two_parts c.put_number-middle.ensures c.put_text.ensures
