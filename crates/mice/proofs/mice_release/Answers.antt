@@ -8,4 +8,4 @@ pub returns-then-report-lt-REPORT_PLACES : goal.returns-then-report-lt-REPORT_PL
 returns-then-report-lt-REPORT_PLACES c = report_short (omega arith)
 
 pub returns : goal.returns
-(report_short (omega arith)) = report_long (omega arith) c.report-totals.ensures c.say_report.ensures.value c.say_report.ensures.report_after
+returns c = report_long (omega arith) c.report-totals.ensures c.say_report.ensures.value c.say_report.ensures.report_after

@@ -10,7 +10,6 @@ use Rattle.render.proofs.Lines.{last_claim_line}
 use Rattle.render.proofs.Sets.{part_left}
 use Rattle.render.proofs.put_claims.Goals as goal
 use Rattle.render.proofs.put_claims.Invariants.{start}
-use Rattle.render.proofs.put_claims.Goals.{In-loop-i}
 
 pub loop-i-init : goal.loop-i-init
 loop-i-init c =
@@ -26,17 +25,13 @@ offset_bounds-counts-i c = omega arith
 pub bounds-counts-i : goal.bounds-counts-i
 bounds-counts-i c = omega arith
 
-abbrev earlier : In-loop-i → List ℕ
-earlier c = claim_lines 1 (take (c.before.loop.i - 1) c.args.counts.now)
-
-abbrev line : In-loop-i → List ℕ
-line c = claim_line c.before.loop.i (get_or c.args.counts.now (c.before.loop.i - 1) 0)
-
 pub put_claim-at-requires : goal.put_claim-at-requires
 put_claim-at-requires c =
-    let split : claim_lines 1 (take c.loop-i.i c.args.counts.now) ≡ earlier c ++ line c = last_claim_line c.args.counts.now c.loop-i.i c.loop-i-test.true c.loop-i.invariant.0 in
-    let here : c.loop-i.at ≡ start c.args.end c.args.counts.now + length (earlier c ++ line c) = c.loop-i.invariant.1 ∙ ap (λ l. start c.args.end c.args.counts.now + length l) split in
-    record { before = omega (arith, here, length-append (earlier c.before.before) (line c.before.before)); within = omega arith }
+    let earlier : List ℕ = claim_lines 1 (take (c.loop-i.i - 1) c.args.counts.now) in
+    let line : List ℕ = claim_line c.loop-i.i (get_or c.args.counts.now (c.loop-i.i - 1) 0) in
+    let split : claim_lines 1 (take c.loop-i.i c.args.counts.now) ≡ earlier ++ line = last_claim_line c.args.counts.now c.loop-i.i c.loop-i-test.true c.loop-i.invariant.0 in
+    let here : c.loop-i.at ≡ start c.args.end c.args.counts.now + length (earlier ++ line) = c.loop-i.invariant.1 ∙ ap (λ l. start c.args.end c.args.counts.now + length l) split in
+    record { before = omega (arith, here, length-append earlier line); within = omega arith }
 
 pub overflow_sub-i-in-loop-i : goal.overflow_sub-i-in-loop-i
 overflow_sub-i-in-loop-i c = omega arith
@@ -46,10 +41,12 @@ loop-i-smaller c = omega arith
 
 pub loop-i-preserved : goal.loop-i-preserved
 loop-i-preserved c =
-    let split : claim_lines 1 (take c.loop-i.i c.args.counts.now) ≡ earlier c ++ line c = last_claim_line c.args.counts.now c.loop-i.i c.loop-i-test.true c.loop-i.invariant.0 in
-    let here : c.loop-i.at ≡ start c.args.end c.args.counts.now + length (earlier c ++ line c) = c.loop-i.invariant.1 ∙ ap (λ l. start c.args.end c.args.counts.now + length l) split in
-    let p = part_left (start c.args.end c.args.counts.now) (earlier c.before.before.before.before.before) (line c.before.before.before.before.before) here c.put_claim-at.ensures in
-    (omega arith, p.0, omega (arith, c.put_claim-at.ensures), ap length c.put_claim-at.ensures.written ∙ length-sets c.loop-i.buffer c.put_claim-at.result (line c.before.before.before.before.before) ∙ c.loop-i.invariant.3, p.1 ∙ ap (sets c.loop-i.buffer (start c.args.end c.args.counts.now)) (sym split) ∙ c.loop-i.invariant.4)
+    let earlier : List ℕ = claim_lines 1 (take (c.loop-i.i - 1) c.args.counts.now) in
+    let line : List ℕ = claim_line c.loop-i.i (get_or c.args.counts.now (c.loop-i.i - 1) 0) in
+    let split : claim_lines 1 (take c.loop-i.i c.args.counts.now) ≡ earlier ++ line = last_claim_line c.args.counts.now c.loop-i.i c.loop-i-test.true c.loop-i.invariant.0 in
+    let here : c.loop-i.at ≡ start c.args.end c.args.counts.now + length (earlier ++ line) = c.loop-i.invariant.1 ∙ ap (λ l. start c.args.end c.args.counts.now + length l) split in
+    let p = part_left (start c.args.end c.args.counts.now) earlier line here c.put_claim-at.ensures in
+    (omega arith, p.0, omega (arith, c.put_claim-at.ensures), ap length c.put_claim-at.ensures.written ∙ length-sets c.loop-i.buffer c.put_claim-at.result line ∙ c.loop-i.invariant.3, p.1 ∙ ap (sets c.loop-i.buffer (start c.args.end c.args.counts.now)) (sym split) ∙ c.loop-i.invariant.4)
 
 pub returns : goal.returns
 returns c =

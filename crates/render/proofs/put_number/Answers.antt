@@ -19,7 +19,7 @@ pub digit-requires : goal.digit-requires
 digit-requires c = omega arith
 
 pub bounds-buffer-at : goal.bounds-buffer-at
-bounds-buffer-at c = omega (arith, c.loop-rest.invariant, (some_digit [] (start c.args.end c.args.number) c.loop_rest.at c.loop_rest.rest _ c.loop_rest.invariant.1 c.loop_rest.invariant.0 refl))
+bounds-buffer-at c = omega (arith, c.loop-rest.invariant, (some_digit [] (start c.args.end c.args.number) c.loop-rest.at c.loop-rest.rest _ c.loop-rest.invariant.1 c.loop-rest.invariant.0 refl))
 
 pub returns-then-rest-lt10 : goal.returns-then-rest-lt10
 returns-then-rest-lt10 c =

@@ -20,13 +20,14 @@ returns-then-buffer-needed c =
     printed 0 _ (record { written_is = rw (lt-leb _ _ over-long); buffer_is = rw (lt-leb _ _ over-long) })
 
 pub returns : goal.returns
-(let over-long : length c.args.buffer.now < length (claim_lines 1 c.args.counts.now ++ verdict_line c.args.verdict) = rw length-append (omega arith) in (let printed : (r : ℕ) (b : List ℕ) → Rendered (claim_lines 1 c.args.counts.now ++ verdict_line c.args.verdict) c.args.buffer.now r b → Rendered (count_lines 1 c.args.counts.now ++ last_line c.args.verdict) c.args.buffer.now r b = λ r b h. subst (λ l. Rendered l c.args.buffer.now r b) (sym (lines_are c.args.counts.now c.args.verdict)) h in printed) 0 _ (record { written_is = rw (lt-leb _ _ over-long); buffer_is = rw (lt-leb _ _ over-long) })) =
+returns c =
+    let printed : (r : ℕ) (b : List ℕ) → Rendered (claim_lines 1 c.args.counts.now ++ verdict_line c.args.verdict) c.args.buffer.now r b → Rendered (count_lines 1 c.args.counts.now ++ last_line c.args.verdict) c.args.buffer.now r b = λ r b h. subst (λ l. Rendered l c.args.buffer.now r b) (sym (lines_are c.args.counts.now c.args.verdict)) h in
     let lines = claim_lines 1 c.args.counts.now ++ verdict_line c.args.verdict in
     let p = two_parts c.put_verdict-end.ensures c.put_claims.ensures in
     let size : length lines ≡ length (claim_lines 1 c.args.counts.now) + length (verdict_line c.args.verdict) = length-append (claim_lines 1 c.args.counts.now) (verdict_line c.args.verdict) in
     let few : length lines ≤ length c.args.buffer.now = omega arith in
     let first : c.put_claims.result ≡ 0 = omega (arith, p.starts) in
-    (let printed : (r : ℕ) (b : List ℕ) → Rendered (claim_lines 1 c.args.counts.now ++ verdict_line c.args.verdict) c.args.buffer.now r b → Rendered (count_lines 1 c.args.counts.now ++ last_line c.args.verdict) c.args.buffer.now r b = λ r b h. subst (λ l. Rendered l c.args.buffer.now r b) (sym (lines_are c.args.counts.now c.args.verdict)) h in printed) _ _
+    printed _ _
     (record {
       written_is = rw (le-leb _ _ few) (omega arith);
       buffer_is = rw (le-leb _ _ few) (p.written ∙ ap (λ at. sets c.args.buffer.now at lines) first ∙ sets_over lines c.args.buffer.now few);
