@@ -11,7 +11,9 @@
 #![tactic(auto)]
 ghost use Rattle.std.specs.Prelude.{◌+◌, ◌≤◌, length};
 
-use libc::STDOUT_FILENO;
+use std::fs::File;
+use std::io;
+use std::io::{Read, Write};
 
 // The kinds of cases; the third are entries. A check and an entry have the words of a formula and a trace, a text those that are expected.
 const CHECK: usize = 1;
@@ -162,27 +164,27 @@ fn run_of(b: &[u8]) -> Run {
 }
 
 // The numbers of the next run; all 0 where the file ends.
-fn next_run(file: i32) -> Run {
+fn next_run(file: &mut impl Read) -> Run {
     let mut bytes = [0u8; RUN_BYTES];
-    io::read_full(file, &mut bytes);
+    files::read_full(file, &mut bytes);
     run_of(&bytes)
 }
 
 // The next run of the file, from a place of the window on; answers where it ends.
-fn read_run(file: i32, window: &mut [u8], at: usize) -> usize
+fn read_run(file: &mut impl Read, window: &mut [u8], at: usize) -> usize
     requires { at ≤ length window.old }
     ensures { result ≤ length window.new }
 {
     let run = next_run(file);
     let middle = ahead(at, run.plain, window.len());
     let end = ahead(middle, run.copied, window.len());
-    io::read_full(file, &mut window[at..middle]);
+    files::read_full(file, &mut window[at..middle]);
     again(window, least(run.source, middle), middle, end);
     end
 }
 
 // Fills a part of the window by the next runs of the file; they stop short where the file ends.
-fn unpack(file: i32, window: &mut [u8], start: usize, end: usize) {
+fn unpack(file: &mut impl Read, window: &mut [u8], start: usize, end: usize) {
     let mut at = least(start, window.len());
     while at < end {
         let next = read_run(file, window, at);
@@ -247,7 +249,7 @@ fn places(first: u64) -> [u64; 1024] {
     let mut all = [0u64; PLACES];
     let mut i: usize = 0;
     while i < PLACES {
-        all[i] = std::num::wrapping_add_u64(first, i as u64);
+        all[i] = first.wrapping_add(i as u64);
         i = i + 1;
     }
     all
@@ -260,7 +262,7 @@ fn after(first: u64, written: &[u8], i: usize) -> u64
     if 8 * i < written.len() {
         return eight(written, 8 * i);
     }
-    std::num::wrapping_add_u64(first, i as u64)
+    first.wrapping_add(i as u64)
 }
 
 // All places hold what is expected.
@@ -402,29 +404,25 @@ fn case_of(b: &[u8]) -> Case {
     }
 }
 
-fn print(text: &[u8]) {
-    io::write_all(STDOUT_FILENO, text);
-}
-
 // Runs the unpacked case; answers where it is counted.
-fn run_case(window: &[u8], case: Case) -> usize {
+fn run_case(rt: &impl Print, window: &[u8], case: Case) -> io::Result<usize> {
     if case_right(window, case) {
-        return case.number;
+        return Ok(case.number);
     }
-    print(b"wrong: ");
-    print(part(window, case.start, case.words_at));
-    std::num::wrapping_add_usize(WRONG, case.number)
+    print!(rt; "wrong: ")?;
+    io::writer(rt).write_all(part(window, case.start, case.words_at))?;
+    Ok(WRONG.wrapping_add(case.number))
 }
 
 // Runs the next case of the file; answers where it is counted, or beyond the tally.
-fn run_next(file: i32, window: &mut [u8]) -> usize {
+fn run_next(rt: &impl Print, file: &mut impl Read, window: &mut [u8]) -> io::Result<usize> {
     let mut bytes = [0u8; CASE_BYTES];
-    if io::read_full(file, &mut bytes) < CASE_BYTES {
-        return TALLY;
+    if files::read_full(file, &mut bytes) < CASE_BYTES {
+        return Ok(TALLY);
     }
     let case = case_of(&bytes);
     unpack(file, window, case.start, case.end);
-    run_case(window, case)
+    run_case(rt, window, case)
 }
 
 // How many cases were right and how many wrong.
@@ -435,68 +433,64 @@ struct Sum {
 }
 
 // Runs and counts the cases of the file.
-fn run_all(file: i32, window: &mut [u8], tally: &mut [u64; 128]) -> Sum {
+fn run_all(
+    rt: &impl Print,
+    file: &mut impl Read,
+    window: &mut [u8],
+    tally: &mut [u64; 128],
+) -> io::Result<Sum> {
     let mut wrong: usize = 0;
     let mut k: usize = 0;
     while k < CASES {
-        let at = run_next(file, window);
+        let at = run_next(rt, file, window)?;
         if TALLY <= at {
-            return Sum {
+            return Ok(Sum {
                 right: k - wrong,
                 wrong: wrong,
-            };
+            });
         }
-        tally[at] = std::num::wrapping_add_u64(tally[at], 1);
+        tally[at] = tally[at].wrapping_add(1);
         wrong = wrong + at / WRONG;
         k = k + 1;
     }
-    Sum { right: 0, wrong: k }
-}
-
-fn say_sum(right: u64, wrong: u64) {
-    print(b": ");
-    io::print_decimal(STDOUT_FILENO, right);
-    print(b" right, ");
-    io::print_decimal(STDOUT_FILENO, wrong);
-    print(b" wrong\n");
+    Ok(Sum { right: 0, wrong: k })
 }
 
 // A line for a number; none if there were no cases.
-fn say_number(number: usize, right: u64, wrong: u64) {
+fn say_number(rt: &impl Print, number: usize, right: u64, wrong: u64) -> io::Result<()> {
     if (right == 0) & (wrong == 0) {
-        return;
+        return Ok(());
     }
-    print(b"refusal ");
-    io::print_decimal(STDOUT_FILENO, number as u64);
-    say_sum(right, wrong);
+    println!(rt; "refusal {number}: {right} right, {wrong} wrong")
 }
 
 // A line for each number.
-fn say_all(tally: &[u64; 128]) {
-    print(b"cases by refusal number: 0 is accepted, 30 an entry\n");
+fn say_all(rt: &impl Print, tally: &[u64; 128]) -> io::Result<()> {
+    println!(rt; "cases by refusal number: 0 is accepted, 30 an entry")?;
     let mut number: usize = 0;
     while number < NUMBERS {
-        say_number(number, tally[number], tally[WRONG + number]);
+        say_number(rt, number, tally[number], tally[WRONG + number])?;
         number = number + 1;
     }
+    Ok(())
 }
 
 // The last line.
-fn say_end(sum: Sum) {
-    print(b"all");
-    say_sum(sum.right as u64, sum.wrong as u64);
+fn say_end(rt: &impl Print, sum: Sum) -> io::Result<()> {
+    println!(rt; "all: {} right, {} wrong", sum.right, sum.wrong)
 }
 
 fn cleared() -> [u8; 262144] {
     [0u8; WINDOW]
 }
 
-fn main() {
-    let file = os::open_read(b"cases");
+fn main(rt: HostRuntime) -> io::Result<()> {
     let mut window = cleared();
     let mut tally = [0u64; TALLY];
-    let sum = run_all(file, &mut window, &mut tally);
-    say_all(&tally);
-    say_end(sum);
-    libc::close(file);
+    let sum = match File::open(&rt, "cases") {
+        Ok(mut file) => run_all(&rt, &mut file, &mut window, &mut tally)?,
+        Err(_) => Sum { right: 0, wrong: 0 },
+    };
+    say_all(&rt, &tally)?;
+    say_end(&rt, sum)
 }

@@ -1,11 +1,11 @@
 // A program: reads answers.bin in the current folder and prints the report over its answers. The file has numbers of eight bytes,
 // the low byte first, as mice_check leaves them in its answer slices, one answer after another.
 #![tactic(auto)]
-ghost use Rattle.std.specs.Prelude.{◌+◌, ◌*◌, ◌≤◌, ◌<◌, length};
-ghost use Rattle.io.specs.Counts.{IsPrefixLen};
 
-use libc::STDOUT_FILENO;
+ghost use Rattle.std.specs.Prelude.{◌+◌, ◌*◌, ◌≤◌, ◌<◌, length};
+
 use release::{Figures, Totals};
+use std::io;
 
 // The bytes of a number.
 const NUMBER_BYTES: usize = 8;
@@ -13,19 +13,6 @@ const NUMBER_BYTES: usize = 8;
 const MOST_BYTES: usize = NUMBER_BYTES * release::MOST_PLACES;
 // One byte more, so that a file that is too long shows.
 const FILE: usize = MOST_BYTES + 1;
-
-// The bytes of the file at the start of the buffer, as many as fit; none where it can't be opened or read.
-fn load(path: &[u8], buffer: &mut [u8]) -> usize
-    ensures { IsPrefixLen result buffer.new }
-{
-    let file = os::open_read(path);
-    if file < 0 {
-        return 0;
-    }
-    let count = io::read_full(file, buffer);
-    libc::close(file);
-    count
-}
 
 // A byte as a number that can be put together with others.
 fn wide(byte: u8) -> u64
@@ -55,7 +42,7 @@ fn number(bytes: &[u8], at: usize) -> u64
 // The numbers of whole bytes, and how many they are.
 fn unpack(bytes: &[u8], numbers: &mut [u64]) -> usize
     requires { length bytes.now ≤ 8 * length numbers.old }
-    ensures { IsPrefixLen result numbers.new }
+    ensures { result ≤ length numbers.new }
 {
     let count = bytes.len() / NUMBER_BYTES;
     let mut i = 0;
@@ -79,37 +66,27 @@ fn report_of(bytes: &[u8]) -> Totals {
     release::report(&numbers[..count])
 }
 
-// A name and a number.
-fn put(name: &[u8], value: u64) {
-    io::write_all(STDOUT_FILENO, name);
-    io::print_decimal(STDOUT_FILENO, value);
-}
-
 // The report's lines.
-fn print_figures(figures: Figures) {
-    put(b"accepted ", figures.accepted);
-    put(b"\nrefused ", figures.refused);
-    put(b"\nsmallest ", figures.smallest.total);
-    put(b" at ", figures.smallest.place);
-    put(b"\nlargest ", figures.largest.total);
-    put(b" at ", figures.largest.place);
-    put(b"\nsum ", figures.sum);
-    io::write_all(STDOUT_FILENO, b"\n");
+fn print_figures(rt: &impl Print, figures: Figures) -> io::Result<()> {
+    let smallest = figures.smallest;
+    let largest = figures.largest;
+    println!(rt; "accepted {}", figures.accepted)?;
+    println!(rt; "refused {}", figures.refused)?;
+    println!(rt; "smallest {} at {}", smallest.total, smallest.place)?;
+    println!(rt; "largest {} at {}", largest.total, largest.place)?;
+    println!(rt; "sum {}", figures.sum)
 }
 
 // The report, or the one line of a refusal, whose place is always 0.
-fn print(totals: Totals) {
+fn print(rt: &impl Print, totals: Totals) -> io::Result<()> {
     match totals {
-        Totals::Given(figures) => print_figures(figures),
-        Totals::Refused(number) => {
-            put(b"refused ", number);
-            io::write_all(STDOUT_FILENO, b" at 0\n");
-        }
+        Totals::Given(figures) => print_figures(rt, figures),
+        Totals::Refused(number) => println!(rt; "refused {number} at 0"),
     }
 }
 
-fn main() {
+fn main(rt: HostRuntime) -> io::Result<()> {
     let mut bytes = [0u8; FILE];
-    let size = load(b"answers.bin", &mut bytes);
-    print(report_of(&bytes[..size]));
+    let size = files::load(&rt, "answers.bin", &mut bytes);
+    print(&rt, report_of(&bytes[..size]))
 }
