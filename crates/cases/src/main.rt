@@ -9,6 +9,7 @@
 // afterwards, eight bytes each; and last, of a check what the count room's first places hold, of a text its bytes, and of an entry its section, its
 // number and from where to where it goes in the trace, three bytes each. Places that are not listed must hold what they held before the call.
 #![tactic(auto)]
+
 ghost use Rattle.std.specs.Prelude.{◌+◌, ◌≤◌, length};
 
 use std::fs::File;
