@@ -3,7 +3,7 @@ use mathlib.Core.Path.{◌≡◌, refl, sym, ap, ◌∙◌}
 use mathlib.Core.Bool.{Bool, true, false, ◌&&◌, cond, true≢false}
 use mathlib.Core.List.{List, [], ◌∷◌, append-nil}
 use mathlib.Core.Option.{Option, none, some}
-use Prim.Native.Nat.{ℕ, suc, ◌+◌, ◌-◌, ◌<◌, ◌≤◌}
+use Prim.Native.Nat.{ℕ, suc, ◌+◌, ◌<◌, ◌≤◌}
 use Prim.Native.Char.{Char, code}
 use native.Mathlib.Omega.{arith}
 use mathlib.Core.Logic.{◌⊎◌, inl, inr, ⊎_elim}

@@ -1,4 +1,4 @@
-use Rattle.std.proofs.Common.{◌-◌, ◌≤◌, rules}
+use Rattle.std.proofs.Common.{◌-◌, ◌≤◌}
 use Rattle.cases.proofs.say_all.Given as goal
 
 abbrev pub invariant-loop-number : goal.invariant-loop-number

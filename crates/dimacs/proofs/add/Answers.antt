@@ -2,7 +2,6 @@ use mir.Val.{SFits}
 use mir.Syntax.{w16}
 use Rattle.dimacs.proofs.Rising.{twice, full, put}
 use Rattle.words.proofs.Words.{back}
-use borrow.Author.Rules.{rules}
 use Rattle.dimacs.proofs.add.Goals as goal
 
 pub returns-then-same_before : goal.returns-then-same_before

@@ -5,7 +5,6 @@ use mir.Syntax.{w16}
 use native.Mathlib.Omega.{arith}
 use lib.IntN.{pos}
 use mathlib.Core.Path.{◌≡◌}
-use borrow.Author.Rules.{rules}
 use Rattle.dimacs.proofs.begin.Goals as goal
 
 pub returns : goal.returns

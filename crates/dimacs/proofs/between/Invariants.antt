@@ -1,7 +1,4 @@
-use Rattle.dimacs.proofs.Buffers.{half_up, half_down, halved}
 use Rattle.dimacs.specs.Clause.{Between}
-use borrow.Author.Rules.{rules}
-use native.Mathlib.Omega.{arith}
 use Prim.Native.Nat.{◌-◌, ◌≤◌}
 use Rattle.dimacs.proofs.between.Given as goal
 

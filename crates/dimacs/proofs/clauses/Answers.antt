@@ -1,12 +1,10 @@
 use Rattle.dimacs.proofs.Steps.{room_to_close, end_within, after_onward, stand_closed, may_add, stand_added}
-use Rattle.dimacs.proofs.Steps.{Standing, going_none, no_number, fault_6, fault_4, fault_5, too_few, all_read}
+use Rattle.dimacs.proofs.Steps.{going_none, no_number, fault_6, fault_4, fault_5, too_few, all_read}
 use Rattle.tokens.specs.Numbers.{SignedRead}
 use Rattle.tokens.specs.declared.Signed.TheVariants as signs
 use lib.ListN.{length}
-use borrow.Author.Rules.{rules}
 use native.Mathlib.Omega.{arith}
 use mathlib.Core.Path.{◌≡◌, refl, subst, ◌∙◌}
-use Prim.Native.Nat.{◌-◌}
 use mathlib.Core.List.{[]}
 use Rattle.dimacs.proofs.clauses.Goals as goal
 
@@ -18,18 +16,17 @@ pub next-at-requires : goal.next-at-requires
 next-at-requires c = c.requires.0.within
 
 pub loop-at-init : goal.loop-at-init
-loop-at-init c =
-    (
-      record {
-        s = record { ended = []; current = [] };
-        going = going_none c.requires.1.clause_long c.begin.ensures c.next-at.ensures;
-        few_variables = c.requires.0.few_variables;
-        short = c.requires.1.short;
-        enough = omega (arith, c.requires.1.enough, c.begin.auto.words);
-      },
-      refl,
-      refl,
-    )
+loop-at-init c = (
+  record {
+    s = record { ended = []; current = [] };
+    going = going_none c.requires.1.clause_long c.begin.ensures c.next-at.ensures;
+    few_variables = c.requires.0.few_variables;
+    short = c.requires.1.short;
+    enough = omega (arith, c.requires.1.enough, c.begin.auto.words);
+  },
+  refl,
+  refl,
+)
 
 pub number_at-requires : goal.number_at-requires
 number_at-requires c = (c.loop-at-test.true, c.loop-at.invariant.0.short)
@@ -75,8 +72,7 @@ loop-at-smaller-then-v-eq0 c =
 
 pub loop-at-preserved-then-v-eq0 : goal.loop-at-preserved-then-v-eq0
 loop-at-preserved-then-v-eq0 c =
-    let read : SignedRead c.args.text.now c.loop-at.at (signs.Is c.in-Is.v c.in-Is.minus c.in-Is.end) = subst (SignedRead _ _) c.in-Is.is c.number_at.ensures in
-    (
+    let read : SignedRead c.args.text.now c.loop-at.at (signs.Is c.in-Is.v c.in-Is.minus c.in-Is.end) = subst (SignedRead _ _) c.in-Is.is c.number_at.ensures in (
       stand_closed c.loop-at.invariant.0 c.loop-at-test.true c.in-Is.v c.in-Is.minus read c.next-after.ensures c.if-ended-m.false c.if-n-v.false c.if-v-eq0.true c.close.ensures,
       c.close.ensures.as_long ∙ c.loop-at.invariant.1,
       c.loop-at.invariant.2,
@@ -97,8 +93,7 @@ loop-at-smaller c =
 
 pub loop-at-preserved : goal.loop-at-preserved
 loop-at-preserved c =
-    let read : SignedRead c.args.text.now c.loop-at.at (signs.Is c.in-Is.v c.in-Is.minus c.in-Is.end) = subst (SignedRead _ _) c.in-Is.is c.number_at.ensures in
-    (
+    let read : SignedRead c.args.text.now c.loop-at.at (signs.Is c.in-Is.v c.in-Is.minus c.in-Is.end) = subst (SignedRead _ _) c.in-Is.is c.number_at.ensures in (
       stand_added c.loop-at.invariant.0 c.loop-at-test.true c.in-Is.v c.in-Is.minus read c.next-after.ensures c.if-ended-m.false c.if-n-v.false c.if-v-eq0.false c.add.ensures c.if-add.true,
       c.loop-at.invariant.1,
       c.add.auto.clause ∙ c.loop-at.invariant.2,

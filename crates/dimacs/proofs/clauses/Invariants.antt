@@ -1,13 +1,7 @@
-use Rattle.dimacs.proofs.Steps.{room_to_close, end_within, after_onward, stand_closed, may_add, stand_added}
-use Rattle.dimacs.proofs.Steps.{Standing, going_none, no_number, fault_6, fault_4, fault_5, too_few, all_read}
-use Rattle.tokens.specs.Numbers.{SignedRead}
-use Rattle.tokens.specs.declared.Signed.TheVariants as signs
+use Rattle.dimacs.proofs.Steps.{Standing}
 use lib.ListN.{length}
-use borrow.Author.Rules.{rules}
-use native.Mathlib.Omega.{arith}
-use mathlib.Core.Path.{◌≡◌, refl, subst, ◌∙◌}
+use mathlib.Core.Path.{◌≡◌}
 use Prim.Native.Nat.{◌-◌}
-use mathlib.Core.List.{[]}
 use Rattle.dimacs.proofs.clauses.Given as goal
 
 abbrev pub invariant-loop-at : goal.invariant-loop-at

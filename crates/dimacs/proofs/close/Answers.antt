@@ -6,7 +6,6 @@ use Rattle.dimacs.proofs.Buffers.{closed}
 use mir.Facts.{to_z_pos}
 use mir.Syntax.{w16}
 use native.Mathlib.Omega.{arith}
-use borrow.Author.Rules.{rules}
 use Rattle.dimacs.proofs.close.Goals as goal
 
 pub copy-requires : goal.copy-requires

@@ -1,9 +1,4 @@
-use Rattle.dimacs.proofs.Buffers.{copied_none, copied_more, copied_length}
 use Rattle.dimacs.specs.Clause.{Copied}
-use Rattle.words.proofs.Words.{back}
-use borrow.Author.Rules.{rules}
-use native.Mathlib.Omega.{arith}
-use mathlib.Core.Path.{◌≡◌}
 use Prim.Native.Nat.{◌-◌, ◌≤◌}
 use Rattle.dimacs.proofs.copy.Given as goal
 

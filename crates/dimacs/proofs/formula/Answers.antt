@@ -1,6 +1,5 @@
 use Rattle.dimacs.proofs.Whole.{no_header, bad_header, is_headed, by_clauses}
 use Rattle.tokens.proofs.First.{ends_at, ends_one}
-use borrow.Author.Rules.{rules}
 use Rattle.dimacs.proofs.formula.Goals as goal
 
 pub returns-then-at-text : goal.returns-then-at-text

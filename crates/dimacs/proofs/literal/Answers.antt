@@ -1,5 +1,4 @@
 use Rattle.dimacs.proofs.Signs.{plus_is, minus_fits, minus_is}
-use borrow.Author.Rules.{rules}
 use Rattle.dimacs.proofs.literal.Goals as goal
 
 pub overflow_sub-result : goal.overflow_sub-result

@@ -1,5 +1,4 @@
 use Rattle.dimacs.proofs.Whole.{too_long}
-use borrow.Author.Rules.{rules}
 use Rattle.dimacs.proofs.read.Goals as goal
 
 pub returns-then-text-gt-TEXT_BYTES : goal.returns-then-text-gt-TEXT_BYTES

@@ -5,7 +5,6 @@ use Rattle.meaning.specs.Limits.{small}
 use Rattle.meaning.specs.declared.TextAnswer.TheVariants.{Words}
 use lib.ListN.{length}
 use native.Mathlib.Omega.{arith}
-use borrow.Author.Rules.{rules}
 use Rattle.dimacs.proofs.read_by.Goals as goal
 
 pub returns-then-room-used : goal.returns-then-room-used

@@ -1,5 +1,4 @@
 use borrow.Author.Tests.{lt-ltb, le-ltb}
-use borrow.Author.Rules.{rules}
 use Rattle.dimacs.proofs.same_before.Goals as goal
 
 pub returns-then-at-gt0 : goal.returns-then-at-gt0

@@ -2,13 +2,10 @@ use Rattle.dimacs.specs.Clause.{Spliced}
 use mathlib.Core.Path.{subst}
 use lib.ListN.{set}
 use Prim.Native.Nat.{ℕ}
-use Rattle.dimacs.proofs.Buffers.{Moved, moved_none, moved_more, moved_set}
+use Rattle.dimacs.proofs.Buffers.{moved_none, moved_more, moved_set}
 use Rattle.words.proofs.Words.{back}
-use lib.ListN.{length, length-set}
-use borrow.Author.Rules.{rules}
 use native.Mathlib.Omega.{arith}
 use mathlib.Core.Path.{◌≡◌}
-use Prim.Native.Nat.{◌-◌, ◌≤◌, ◌<◌}
 use Rattle.dimacs.proofs.splice.Goals as goal
 
 pub loop-i-init : goal.loop-i-init

@@ -1,5 +1,4 @@
 use borrow.Author.Tests.{eq-eqb, ne_eqb}
-use borrow.Author.Rules.{rules}
 use Rattle.lines.proofs.claims.Goals as goal
 
 pub check-verdict-requires : goal.check-verdict-requires

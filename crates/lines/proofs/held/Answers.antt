@@ -1,5 +1,4 @@
 use borrow.Author.Tests.{lt-ltb, le-ltb, eq-eqb, ne_eqb}
-use borrow.Author.Rules.{rules}
 use Rattle.lines.proofs.held.Goals as goal
 
 pub returns-in_default : goal.returns-in_default

@@ -4,7 +4,6 @@ use native.Mathlib.Omega.{arith}
 use Rattle.meaning.specs.Limits.{small}
 use Rattle.meaning.specs.Text.{dimacs}
 use Rattle.lines.proofs.Program.{as_printed, words_within, program_words, program_fault}
-use borrow.Author.Rules.{rules}
 use Rattle.lines.proofs.print.Goals as goal
 
 pub read-answer-requires : goal.read-answer-requires

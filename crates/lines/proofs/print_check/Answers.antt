@@ -4,7 +4,6 @@ use native.Mathlib.Omega.{arith}
 use lib.ListN.{length, length-take}
 use Rattle.meaning.specs.Limits.{small}
 use Rattle.lines.proofs.Program.{as_rendered, held_within, check_lines_are}
-use borrow.Author.Rules.{rules}
 use Rattle.lines.proofs.print_check.Goals as goal
 
 pub check-verdict-requires : goal.check-verdict-requires

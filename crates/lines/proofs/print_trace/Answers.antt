@@ -3,7 +3,6 @@ use Prim.Native.Nat.{◌-◌}
 use native.Mathlib.Omega.{arith}
 use lib.ListN.{take}
 use Rattle.lines.proofs.Program.{as_rendered, trace_long, trace_odd, trace_even}
-use borrow.Author.Rules.{rules}
 use Rattle.lines.proofs.print_trace.Goals as goal
 
 pub returns-then-trace : goal.returns-then-trace

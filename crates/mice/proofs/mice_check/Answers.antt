@@ -1,4 +1,3 @@
-use borrow.Author.Rules.{rules}
 use native.Mathlib.Omega.{arith}
 use Rattle.mice.proofs.Places.{check_short, check_long}
 use Rattle.mice.proofs.mice_check.Goals as goal

@@ -1,6 +1,5 @@
 use native.Mathlib.Omega.{arith}
 use Rattle.mice.proofs.Places.{report_short, report_long}
-use borrow.Author.Rules.{rules}
 use Rattle.mice.proofs.mice_release.Goals as goal
 
 -- `mice::mice_release` meets its contract. Assumes nothing.

@@ -1,7 +1,6 @@
 use native.Mathlib.Omega.{arith}
 use lib.ListN.{length-set}
 use Rattle.mice.proofs.Places.{three}
-use borrow.Author.Rules.{rules}
 use Rattle.mice.proofs.put.Goals as goal
 
 pub bounds-answer-1 : goal.bounds-answer-1

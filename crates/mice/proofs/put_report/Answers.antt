@@ -4,7 +4,6 @@ use native.Mathlib.Omega.{arith}
 use lib.ListN.{length, take}
 use lib.Seq.{sets, sets-eq, lt-length-sets}
 use Rattle.release.specs.Report.{report_places, places_of}
-use borrow.Author.Rules.{rules}
 use Rattle.mice.proofs.put_report.Goals as goal
 
 pub bounds-report-1 : goal.bounds-report-1

@@ -1,4 +1,3 @@
-use borrow.Author.Rules.{rules}
 use Rattle.lines.proofs.Program.{printed_within}
 use Rattle.micecheck.proofs.print.Goals as goal
 

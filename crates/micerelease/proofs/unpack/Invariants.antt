@@ -1,8 +1,6 @@
 use mathlib.Core.Path.{◌≡◌}
 use Prim.Native.Nat.{◌≤◌, ◌-◌}
-use native.Mathlib.Omega.{arith}
 use lib.ListN.{length}
-use borrow.Author.Rules.{rules}
 use Rattle.micerelease.proofs.unpack.Given as goal
 
 -- `micerelease::unpack` meets its contract: as many numbers as the bytes have lie within the slice. Assumes nothing.

@@ -1,7 +1,6 @@
 use mathlib.Core.Path.{ap}
 use native.Mathlib.Omega.{arith}
 use Rattle.release.proofs.More.{accepted_first, accepted_more}
-use borrow.Author.Rules.{rules}
 use Rattle.release.proofs.accept.Goals as goal
 
 -- `release::accept` meets its contract: the first accepted answer, or one more. Assumes nothing.

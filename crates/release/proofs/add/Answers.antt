@@ -4,7 +4,6 @@ use native.Mathlib.Omega.{arith}
 use borrow.Author.Tests.{ne_eqb}
 use Rattle.release.specs.Report.{answer}
 use Rattle.release.proofs.More.{summed, given_is, too_large}
-use borrow.Author.Rules.{rules}
 use Rattle.release.proofs.add.Goals as goal
 
 pub returns-then-number-ne0 : goal.returns-then-number-ne0

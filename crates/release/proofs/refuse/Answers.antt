@@ -1,5 +1,4 @@
 use Rattle.release.proofs.More.{refused_more}
-use borrow.Author.Rules.{rules}
 use Rattle.release.proofs.refuse.Goals as goal
 
 pub returns : goal.returns

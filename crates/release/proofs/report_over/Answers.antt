@@ -1,7 +1,5 @@
-use Prim.Native.Nat.{◌≤◌, ◌-◌}
 use native.Mathlib.Omega.{arith}
-use Rattle.release.proofs.Turn.{Over, over_none, over_few, over_more, over_refused, over_all}
-use borrow.Author.Rules.{rules}
+use Rattle.release.proofs.Turn.{over_none, over_few, over_more, over_refused, over_all}
 use Rattle.release.proofs.report_over.Goals as goal
 
 pub loop-i-init : goal.loop-i-init

@@ -1,7 +1,5 @@
 use Prim.Native.Nat.{◌≤◌, ◌-◌}
-use native.Mathlib.Omega.{arith}
-use Rattle.release.proofs.Turn.{Over, over_none, over_few, over_more, over_refused, over_all}
-use borrow.Author.Rules.{rules}
+use Rattle.release.proofs.Turn.{Over}
 use Rattle.release.proofs.report_over.Given as goal
 
 -- `release::report_over` meets its contract: the figures of the answers passed, one more in each turn. Assumes nothing.

@@ -1,7 +1,6 @@
 use native.Mathlib.Omega.{arith}
 use lib.ListN.{length-append}
 use Rattle.render.specs.Shown.{named}
-use borrow.Author.Rules.{rules}
 use Rattle.render.proofs.claim_width.Goals as goal
 
 pub returns : goal.returns

@@ -1,6 +1,6 @@
 use mathlib.Core.Path.{◌≡◌, ap}
 use mathlib.Core.List.{[]}
-use Prim.Native.Nat.{◌+◌, ◌*◌, ◌-◌, ◌≤◌, ◌<◌}
+use Prim.Native.Nat.{◌+◌, ◌<◌}
 use native.Mathlib.Omega.{arith}
 use lib.ListN.{length, drop, drop_of_length-le}
 use Rattle.render.proofs.Lines.{first_line}

@@ -1,13 +1,9 @@
-use native.Mathlib.Nat.{add-zero}
-use mathlib.Core.Path.{◌≡◌, refl, sym, ap, subst, ◌∙◌}
-use mathlib.Core.List.{List, ◌++◌}
+use mathlib.Core.Path.{◌≡◌}
+use mathlib.Core.List.{List}
 use Prim.Native.Nat.{ℕ, ◌+◌, ◌-◌, ◌≤◌}
-use native.Mathlib.Omega.{arith}
-use lib.ListN.{length, take, get_or, length-append}
-use lib.Seq.{sets, length-sets, take-length}
-use Rattle.render.specs.Shown.{claim_line, claim_lines}
-use Rattle.render.proofs.Lines.{last_claim_line}
-use Rattle.render.proofs.Sets.{part_left}
+use lib.ListN.{length, take}
+use lib.Seq.{sets}
+use Rattle.render.specs.Shown.{claim_lines}
 use Rattle.render.proofs.put_claims.Given as goal
 
 -- `render::put_claims` meets its contract: writing the lines that are left is writing the lines. Assumes nothing.

@@ -1,6 +1,5 @@
 use Rattle.render.specs.Shown.{shown, named}
 use Rattle.render.proofs.Sets.{two_parts, room_last, room_rest}
-use borrow.Author.Rules.{rules}
 use Rattle.render.proofs.put_named.Goals as goal
 
 -- `render::put_named` meets its contract: the number finds room, and what it is before it. Assumes nothing.

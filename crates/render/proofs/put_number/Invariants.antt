@@ -1,11 +1,8 @@
-use mathlib.Core.Path.{◌≡◌, refl, sym, ap, ◌∙◌}
-use mathlib.Core.List.{[]}
+use mathlib.Core.Path.{◌≡◌}
 use Prim.Native.Nat.{ℕ, ◌+◌, ◌-◌, ◌≤◌, ◌<◌, ◌^◌}
-use native.Mathlib.Omega.{arith}
-use lib.ListN.{length, length-set}
+use lib.ListN.{length}
 use lib.Seq.{sets}
 use Rattle.render.specs.Shown.{shown}
-use Rattle.render.proofs.Digits.{first_digit, next_digit, some_digit}
 use Rattle.render.proofs.put_number.Given as goal
 
 -- `render::put_number` meets its contract: writing the digits that are left is writing the number's. Assumes nothing.

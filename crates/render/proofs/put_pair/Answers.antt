@@ -4,7 +4,6 @@ use Rattle.meaning.specs.Text.{bytes}
 use Rattle.render.specs.Placed.{Room}
 use Rattle.render.specs.Shown.{named}
 use Rattle.render.proofs.Sets.{two_parts, room_last, room_rest}
-use borrow.Author.Rules.{rules}
 use Rattle.render.proofs.put_pair.Goals as goal
 
 pub put_text-line_end-requires : goal.put_text-line_end-requires

@@ -1,10 +1,10 @@
-use mathlib.Core.Path.{◌≡◌, refl}
-use Prim.Native.Nat.{◌+◌, ◌-◌, ◌≤◌, ◌<◌}
+use mathlib.Core.Path.{refl}
+use Prim.Native.Nat.{◌+◌, ◌-◌, ◌<◌}
 use native.Mathlib.Nat.{add-zero, add_assoc}
 use native.Mathlib.Numerals.{add-one}
 use native.Mathlib.Omega.{arith}
-use lib.ListN.{length, length-set, drop, drop_of_length-le}
-use lib.Seq.{sets, drop-cons}
+use lib.ListN.{length, length-set, drop_of_length-le}
+use lib.Seq.{drop-cons}
 use Rattle.render.proofs.put_text.Goals as goal
 
 pub overflow_sub-start : goal.overflow_sub-start

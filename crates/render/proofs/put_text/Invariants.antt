@@ -1,10 +1,7 @@
-use mathlib.Core.Path.{◌≡◌, refl}
-use Prim.Native.Nat.{◌+◌, ◌-◌, ◌≤◌, ◌<◌}
-use native.Mathlib.Nat.{add-zero, add_assoc}
-use native.Mathlib.Numerals.{add-one}
-use native.Mathlib.Omega.{arith}
-use lib.ListN.{length, length-set, drop, drop_of_length-le}
-use lib.Seq.{sets, drop-cons}
+use mathlib.Core.Path.{◌≡◌}
+use Prim.Native.Nat.{◌+◌, ◌-◌, ◌≤◌}
+use lib.ListN.{length, drop}
+use lib.Seq.{sets}
 use Rattle.render.proofs.put_text.Given as goal
 
 -- `render::put_text` meets its contract: writing what is left of the text is writing the text. Assumes nothing.

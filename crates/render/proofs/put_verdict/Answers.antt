@@ -1,4 +1,3 @@
-use borrow.Author.Rules.{rules}
 use Rattle.render.proofs.put_verdict.Goals as goal
 
 pub put_accepted-requires : goal.put_accepted-requires

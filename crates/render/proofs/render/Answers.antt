@@ -10,7 +10,6 @@ use Rattle.render.specs.Placed.{Rendered}
 use Rattle.render.proofs.Lines.{lines_are}
 use Rattle.render.specs.Shown.{claim_lines, verdict_line}
 use Rattle.render.proofs.Sets.{two_parts, sets_over}
-use borrow.Author.Rules.{rules}
 use Rattle.render.proofs.render.Goals as goal
 
 pub returns-then-buffer-needed : goal.returns-then-buffer-needed

@@ -1,8 +1,8 @@
 use mir.Syntax.{w16}
 use mathlib.Core.Path.{◌≡◌, refl, sym, ap, ◌∙◌}
-use Prim.Native.Nat.{◌+◌, ◌*◌, ◌-◌, ◌/◌, ◌≤◌, ◌<◌}
+use Prim.Native.Nat.{◌+◌, ◌*◌, ◌/◌, ◌≤◌, ◌<◌}
 use native.Mathlib.Omega.{arith}
-use lib.ListN.{length, take, drop, get_or, length-set}
+use lib.ListN.{length, take, get_or, length-set}
 use lib.Seq.{sets, take_at}
 use mir.Facts.{to_z-of_z}
 use Rattle.meaning.specs.Lines.{words_of}

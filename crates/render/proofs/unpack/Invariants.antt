@@ -1,14 +1,8 @@
-use mir.Syntax.{w16}
-use mathlib.Core.Path.{◌≡◌, refl, sym, ap, ◌∙◌}
-use Prim.Native.Nat.{◌+◌, ◌*◌, ◌-◌, ◌/◌, ◌≤◌, ◌<◌}
-use native.Mathlib.Omega.{arith}
-use lib.ListN.{length, take, drop, get_or, length-set}
-use lib.Seq.{sets, take_at}
-use mir.Facts.{to_z-of_z}
+use mathlib.Core.Path.{◌≡◌}
+use Prim.Native.Nat.{◌*◌, ◌-◌, ◌≤◌}
+use lib.ListN.{length, drop}
+use lib.Seq.{sets}
 use Rattle.meaning.specs.Lines.{words_of}
-use Rattle.meaning.specs.Promise.{over}
-use Rattle.render.proofs.Words.{word_is, word_turn, no_word, word_count}
-use Rattle.render.proofs.Sets.{sets_over}
 use Rattle.render.proofs.unpack.Given as goal
 
 -- `render::unpack` meets its contract: writing the words that are left is writing the words. Assumes nothing.

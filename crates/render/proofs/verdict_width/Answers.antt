@@ -1,7 +1,6 @@
 use native.Mathlib.Omega.{arith}
 use lib.ListN.{length-append}
 use Rattle.render.specs.Shown.{named}
-use borrow.Author.Rules.{rules}
 use Rattle.render.proofs.verdict_width.Goals as goal
 
 pub returns-in-Accepted : goal.returns-in-Accepted

@@ -1,8 +1,6 @@
-use mathlib.Core.Path.{◌≡◌, ap}
-use Prim.Native.Nat.{◌+◌, ◌<◌, ◌^◌}
+use mathlib.Core.Path.{ap}
 use native.Mathlib.Omega.{arith}
 use lib.ListN.{length, length-append}
-use Rattle.render.specs.Shown.{shown}
 use Rattle.render.proofs.Digits.{last_digit, digit_before, few_digits}
 use Rattle.render.proofs.width.Goals as goal
 

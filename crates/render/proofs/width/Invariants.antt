@@ -1,9 +1,7 @@
-use mathlib.Core.Path.{◌≡◌, ap}
+use mathlib.Core.Path.{◌≡◌}
 use Prim.Native.Nat.{◌+◌, ◌<◌, ◌^◌}
-use native.Mathlib.Omega.{arith}
-use lib.ListN.{length, length-append}
+use lib.ListN.{length}
 use Rattle.render.specs.Shown.{shown}
-use Rattle.render.proofs.Digits.{last_digit, digit_before, few_digits}
 use Rattle.render.proofs.width.Given as goal
 
 -- `render::width` meets its contract: the digits counted and those of what is left are the number's. Assumes nothing.

@@ -1,6 +1,5 @@
 use Rattle.tokens.specs.Numbers.{is_digit}
 use borrow.Author.Tests.{le-leb, lt-leb}
-use borrow.Author.Rules.{rules}
 use Rattle.tokens.proofs.digit.Goals as goal
 
 pub returns-then-b-lt48 : goal.returns-then-b-lt48

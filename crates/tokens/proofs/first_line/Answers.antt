@@ -1,11 +1,5 @@
 use Rattle.tokens.proofs.First.{lines_all, ends_at, ends_one, found, at_end, next_line, ends_onward, no_line}
-use Rattle.tokens.specs.Header.{lines_at}
-use Rattle.meaning.specs.Text.{lines}
-use lib.ListN.{length}
-use borrow.Author.Rules.{rules}
 use native.Mathlib.Omega.{arith}
-use mathlib.Core.Path.{◌≡◌}
-use Prim.Native.Nat.{◌-◌, ◌≤◌}
 use Rattle.tokens.proofs.first_line.Goals as goal
 
 pub loop-at-init : goal.loop-at-init

@@ -1,6 +1,5 @@
 use Rattle.tokens.proofs.Heads.{p_within, cnf_within, header_p_no, header_cnf_no, header_yes}
 use mathlib.Core.Path.{sym, ◌∙◌}
-use borrow.Author.Rules.{rules}
 use Rattle.tokens.proofs.header_of.Goals as goal
 
 pub next-a-requires : goal.next-a-requires

@@ -1,9 +1,5 @@
 use Rattle.tokens.proofs.Places.{line_stops, line_goes, line_ends}
-use Rattle.tokens.specs.Scan.{line_end}
-use lib.ListN.{length}
-use borrow.Author.Rules.{rules}
-use mathlib.Core.Path.{◌≡◌, refl, sym, ◌∙◌}
-use Prim.Native.Nat.{◌-◌}
+use mathlib.Core.Path.{refl, sym, ◌∙◌}
 use Rattle.tokens.proofs.line_end.Goals as goal
 
 pub loop-at-init : goal.loop-at-init

@@ -1,8 +1,6 @@
-use Rattle.tokens.proofs.Places.{line_stops, line_goes, line_ends}
 use Rattle.tokens.specs.Scan.{line_end}
 use lib.ListN.{length}
-use borrow.Author.Rules.{rules}
-use mathlib.Core.Path.{◌≡◌, refl, sym, ◌∙◌}
+use mathlib.Core.Path.{◌≡◌}
 use Prim.Native.Nat.{◌-◌}
 use Rattle.tokens.proofs.line_end.Given as goal
 

@@ -1,11 +1,8 @@
 use Rattle.tokens.proofs.Places.{gap_line_end, gap_blank}
-use Rattle.tokens.specs.Scan.{tokens_from, parts}
-use lib.ListN.{length}
+use Rattle.tokens.specs.Scan.{parts}
 use borrow.Author.Tests.{ne_eqb}
-use borrow.Author.Rules.{rules}
 use native.Mathlib.Omega.{arith}
-use mathlib.Core.Path.{◌≡◌, refl, sym, ◌∙◌}
-use Prim.Native.Nat.{◌-◌, ◌≤◌}
+use mathlib.Core.Path.{refl, sym, ◌∙◌}
 use Rattle.tokens.proofs.next.Goals as goal
 
 pub loop-at-init : goal.loop-at-init

@@ -1,10 +1,6 @@
-use Rattle.tokens.proofs.Places.{gap_line_end, gap_blank}
-use Rattle.tokens.specs.Scan.{tokens_from, parts}
+use Rattle.tokens.specs.Scan.{tokens_from}
 use lib.ListN.{length}
-use borrow.Author.Tests.{ne_eqb}
-use borrow.Author.Rules.{rules}
-use native.Mathlib.Omega.{arith}
-use mathlib.Core.Path.{◌≡◌, refl, sym, ◌∙◌}
+use mathlib.Core.Path.{◌≡◌}
 use Prim.Native.Nat.{◌-◌, ◌≤◌}
 use Rattle.tokens.proofs.next.Given as goal
 

@@ -2,7 +2,6 @@ use Rattle.tokens.proofs.Numbers.{digits_at, digits_within, signed_not, signed_i
 use Rattle.tokens.specs.Numbers.{NumeralRead}
 use Rattle.tokens.specs.declared.Numeral.{Numeral}
 use mathlib.Core.Path.{◌≡◌, sym, subst}
-use borrow.Author.Rules.{rules}
 use Rattle.tokens.proofs.number_at.Goals as goal
 
 pub numeral_at-requires : goal.numeral_at-requires

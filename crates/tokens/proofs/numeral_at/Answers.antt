@@ -1,6 +1,5 @@
 use Rattle.tokens.proofs.Numbers.{no_digit, one_digit, more_digits, leading_zero, numeral_not}
 use mathlib.Core.Path.{sym, ◌∙◌}
-use borrow.Author.Rules.{rules}
 use Rattle.tokens.proofs.numeral_at.Goals as goal
 
 pub returns-then-end-start : goal.returns-then-end-start

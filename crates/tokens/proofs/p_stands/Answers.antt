@@ -2,7 +2,6 @@ use Rattle.tokens.proofs.Heads.{spells_p}
 use Rattle.tokens.proofs.Places.{stands_inside}
 use native.Mathlib.Omega.{arith}
 use mathlib.Core.Path.{sym, ◌∙◌}
-use borrow.Author.Rules.{rules}
 use Rattle.tokens.proofs.p_stands.Goals as goal
 
 pub overflow_add-at : goal.overflow_add-at

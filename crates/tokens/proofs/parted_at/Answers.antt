@@ -1,7 +1,6 @@
 use Rattle.tokens.specs.Scan.{parted, parts}
 use borrow.Author.Tests.{lt-ltb, le-ltb, ne_eqb}
 use mathlib.Core.Path.{◌∙◌}
-use borrow.Author.Rules.{rules}
 use Rattle.tokens.proofs.parted_at.Goals as goal
 
 pub returns-then-b-eq10 : goal.returns-then-b-eq10

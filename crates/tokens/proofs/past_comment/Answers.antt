@@ -1,7 +1,6 @@
 use Rattle.tokens.proofs.Places.{stands_inside, past_one, past_none}
 use native.Mathlib.Omega.{arith}
 use mathlib.Core.Path.{sym, ◌∙◌}
-use borrow.Author.Rules.{rules}
 use Rattle.tokens.proofs.past_comment.Goals as goal
 
 pub overflow_add-at : goal.overflow_add-at

@@ -2,7 +2,6 @@ use Rattle.tokens.proofs.Heads.{read_within, sizes_first, sizes_second, sizes_mo
 use Rattle.tokens.specs.Numbers.{NumeralRead}
 use Rattle.tokens.specs.declared.Numeral.TheVariants as numerals
 use mathlib.Core.Path.{subst}
-use borrow.Author.Rules.{rules}
 use Rattle.tokens.proofs.sizes.Goals as goal
 
 pub returns-in_default : goal.returns-in_default

@@ -1,6 +1,5 @@
 use Rattle.tokens.proofs.First.{solid_comment, solid_tokens}
 use mathlib.Core.Path.{sym, ◌∙◌}
-use borrow.Author.Rules.{rules}
 use Rattle.tokens.proofs.solid.Goals as goal
 
 pub returns-then-stands_at : goal.returns-then-stands_at

@@ -1,6 +1,5 @@
 use Rattle.tokens.specs.Scan.{stands}
 use borrow.Author.Tests.{lt-ltb, le-ltb}
-use borrow.Author.Rules.{rules}
 use Rattle.tokens.proofs.stands_at.Goals as goal
 
 pub returns-then-at-text : goal.returns-then-at-text
