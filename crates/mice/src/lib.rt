@@ -1,4 +1,4 @@
-// The functions that a C host calls: numbers and lent slices only.
+// The functions that a host calls: numbers and lent slices only. The crate mice_c exports them to C.
 #![tactic(auto)]
 
 ghost use Rattle.std.specs.Prelude.{◌≤◌, ◌≡◌, ◌∷◌, [], length};
@@ -48,13 +48,7 @@ fn say(verdict: Verdict, answer: &mut [u64]) -> u64
 }
 
 // The check of a trace against a formula. See include/mice.h.
-#[unsafe(no_mangle)]
-pub extern "C" fn mice_check(
-    formula: &[i16],
-    trace: &[i16],
-    counts: &mut [u64],
-    answer: &mut [u64],
-) -> u64
+pub fn mice_check(formula: &[i16], trace: &[i16], counts: &mut [u64], answer: &mut [u64]) -> u64
     ensures { Hosted small formula.now trace.now counts.old answer.old result counts.new answer.new }
 {
     if answer.len() < ANSWER_PLACES {
@@ -65,8 +59,7 @@ pub extern "C" fn mice_check(
 }
 
 // The reading of a DIMACS text into formula words. See include/mice.h.
-#[unsafe(no_mangle)]
-pub extern "C" fn mice_read(text: &[u8], room: &mut [i16], answer: &mut [u64]) -> u64
+pub fn mice_read(text: &[u8], room: &mut [i16], answer: &mut [u64]) -> u64
     ensures { HostedText small text.now room.old answer.old result room.new answer.new }
 {
     if answer.len() < ANSWER_PLACES {
@@ -114,8 +107,7 @@ fn say_report(totals: Totals, report: &mut [u64]) -> u64
 }
 
 // The report over the answers of many checks. See include/mice.h.
-#[unsafe(no_mangle)]
-pub extern "C" fn mice_release(answers: &[u64], report: &mut [u64]) -> u64
+pub fn mice_release(answers: &[u64], report: &mut [u64]) -> u64
     ensures { HostedReport answers.now report.old result report.new }
 {
     if report.len() < REPORT_PLACES {
