@@ -1,11 +1,11 @@
 #!/bin/sh
-# bench/run.sh [LIB.a]: measures the library (built by `rt staticlib mice` if none is given) beside the Rust checker of fuzz/
+# bench/run.sh [LIB.a]: measures the library (built by host/library.sh if none is given) beside the Rust checker of fuzz/
 # and plain.c, and writes the tables of docs/SPEED.md and the picture docs/speed.svg. About a minute and a half of processor time.
 set -eu
 here=$(cd "$(dirname "$0")" && pwd)
 root=$here/..
 if [ $# -eq 0 ]; then
-    (cd "$root" && rt staticlib mice)
+    "$root/host/library.sh"
     set -- "$root/target/staticlib/libmice.a"
 fi
 MICE_LIB=$(cd "$(dirname "$1")" && pwd)/$(basename "$1")

@@ -8,7 +8,7 @@ library=$root/target/staticlib/libmice.a
 command=$root/target/host/$name
 if [ ! -f "$library" ]; then
     echo "building the library: its crates are proved first, which takes some minutes" >&2
-    (cd "$root" && rt staticlib mice) >&2
+    "$root/host/library.sh" >&2
 fi
 if [ ! -x "$command" ] || [ "$library" -nt "$command" ] || [ "$root/host/$name.c" -nt "$command" ]; then
     mkdir -p "$root/target/host"

@@ -1,7 +1,8 @@
 // Bytes of files for the programs.
 #![tactic(auto)]
 
-ghost use Rattle.std.specs.Prelude.{◌≤◌, length};
+ghost use Rattle.std.specs.Prelude.{◌≤◌, length, take};
+ghost use Rattle.std.specs.Io.KnownBytes.{Consumes};
 
 use std::fs::File;
 use std::io::Read;
@@ -9,7 +10,8 @@ use std::rt::Files;
 
 // Reads until the buffer is full, the input ends or a read fails, and answers how many bytes it put at the start of the buffer.
 pub fn read_full<R: Read>(input: &mut R, buffer: &mut [u8]) -> usize
-    ensures { result ≤ length buffer.new }
+    ensures within { result ≤ length buffer.new }
+    ensures read { Consumes (R.remaining input.old) (R.remaining input.new) (take result buffer.new) }
 {
     let mut done = 0;
     while done < buffer.len() {
