@@ -1,7 +1,7 @@
 // Bytes of files for the programs.
 #![tactic(auto)]
 
-ghost use Rattle.std.specs.Prelude.{◌≤◌, length, take};
+ghost use Rattle.std.specs.Prelude.{◌≡◌, ◌≤◌, length, take};
 ghost use Rattle.std.specs.Io.KnownBytes.{Consumes};
 
 use std::fs::File;
@@ -26,7 +26,7 @@ pub fn read_full<R: Read>(input: &mut R, buffer: &mut [u8]) -> usize
 
 // The bytes of the file at the start of the buffer, as many as fit; none where it can't be opened or read.
 pub fn load(rt: &impl Files, path: &str, buffer: &mut [u8]) -> usize
-    ensures { result ≤ length buffer.new }
+    ensures { (result ≤ length buffer.new) × (result ≡ length (take result buffer.new)) }
 {
     match File::open(rt, path) {
         Ok(mut file) => read_full(&mut file, buffer),

@@ -2,7 +2,7 @@
 // lines::print's; here files are read and the bytes are written once.
 #![tactic(auto)]
 
-ghost use Rattle.std.specs.Prelude.{◌≤◌, length};
+ghost use Rattle.std.specs.Prelude.{◌≡◌, ◌≤◌, length, take};
 
 use std::io;
 use std::io::Write;
@@ -12,7 +12,7 @@ const FILE: usize = 65536;
 
 // What is to be printed, at the buffer's start.
 fn print(text: &[u8], trace: &[u8], buffer: &mut [u8]) -> usize
-    ensures { result ≤ length buffer.new }
+    ensures { (result ≤ length buffer.new) × (result ≡ length (take result buffer.new)) }
 {
     lines::print(text, trace, buffer)
 }

@@ -2,7 +2,7 @@
 // the low byte first, as mice_check leaves them in its answer slices, one answer after another.
 #![tactic(auto)]
 
-ghost use Rattle.std.specs.Prelude.{◌+◌, ◌*◌, ◌≤◌, ◌<◌, length};
+ghost use Rattle.std.specs.Prelude.{◌≡◌, ◌+◌, ◌*◌, ◌≤◌, ◌<◌, length, take};
 
 use release::{Figures, Totals};
 use std::io;
@@ -42,7 +42,7 @@ fn number(bytes: &[u8], at: usize) -> u64
 // The numbers of whole bytes, and how many they are.
 fn unpack(bytes: &[u8], numbers: &mut [u64]) -> usize
     requires { length bytes.now ≤ 8 * length numbers.old }
-    ensures { result ≤ length numbers.new }
+    ensures { (result ≤ length numbers.new) × (result ≡ length (take result numbers.new)) }
 {
     let count = bytes.len() / NUMBER_BYTES;
     let mut i = 0;

@@ -6,4 +6,4 @@ pub print-requires : goal.print-requires
 print-requires c = tt
 
 pub returns : goal.returns
-returns c = (printed_within c.print.ensures).0
+returns c = printed_within c.print.ensures
