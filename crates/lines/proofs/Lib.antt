@@ -1,3 +1,4 @@
-pub mod Kept
 pub mod Program
 pub mod Most
+pub mod Seen
+pub mod Started
