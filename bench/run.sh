@@ -2,7 +2,6 @@
 # bench/run.sh [LIB.a]: measures the library (built by host/library.sh if none is given) beside the Rust checker of fuzz/
 # and plain.c, and writes the tables of docs/SPEED.md and the picture docs/speed.svg. About a minute and a half of processor time.
 set -eu
-[ "$(uname -m)" = x86_64 ] || { echo "bench: the library is built for x86-64, and times under an emulator say nothing" >&2; exit 2; }
 here=$(cd "$(dirname "$0")" && pwd)
 root=$here/..
 if [ $# -eq 0 ]; then

@@ -7,7 +7,6 @@ set -eu
 lib=${1:?usage: fuzz/run.sh LIB.a [--seed S] [--count N]}
 shift
 here=$(cd "$(dirname "$0")" && pwd)
-lib=$("$here/../host/x86.sh" --linkable "$lib")
 MICE_LIB=$(cd "$(dirname "$lib")" && pwd)/$(basename "$lib")
 export MICE_LIB
 CARGO_TARGET_DIR=$here/../target/cargo

@@ -6,7 +6,6 @@ lib=${1:?usage: fuzz/test.sh LIB.a}
 here=$(cd "$(dirname "$0")" && pwd)
 out=$here/../target/fuzz
 mkdir -p "$out"
-lib=$("$here/../host/x86.sh" --linkable "$lib")
 CARGO_TARGET_DIR=$here/../target/cargo cargo test --quiet --offline --release --lib --manifest-path "$here/Cargo.toml" > "$out/test" 2>&1 ||
     { cat "$out/test"; exit 1; }
 echo "the second checker and the generator: ok"
@@ -15,7 +14,7 @@ echo "the second checker and the generator: ok"
 objcopy --redefine-sym mice_check=sound_check --redefine-sym mice_read=sound_read "$lib" "$out/libbroken.a" 2> "$out/objcopy"
 ${CC:-gcc} -O2 -Wall -Wextra -Wno-cast-qual -I"$here/../include" -c "$here/broken.c" -o "$out/broken.o"
 ar q "$out/libbroken.a" "$out/broken.o" 2> "$out/ar"
-for fault in $(seq 19); do
+for fault in 1 2 3 4 5 6 7 8 9 11 12 13 14 15; do
     status=0
     MICE_FAULT=$fault "$here/run.sh" "$out/libbroken.a" --count 60000 --found "$out/found" > "$out/said" 2>&1 || status=$?
     found=$(sed -n 's/^; seed [0-9]*, \(case [0-9]*\).*/\1/p' "$out/said" | head -n 1)

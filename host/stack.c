@@ -25,7 +25,7 @@ static int16_t room[MICE_WORDS];
 static void *make_call(void *of) {
     struct call *c = of;
     c->top = (uintptr_t)__builtin_frame_address(0);
-    c->returned = c->text          ? mice_read((const uint8_t *)c->text, c->text_len, room, MICE_WORDS, answer, MICE_READ_ANSWER)
+    c->returned = c->text          ? mice_read((const uint8_t *)c->text, c->text_len, room, MICE_WORDS, answer, MICE_ANSWER)
                   : c->answers_len ? mice_release(answers, c->answers_len, report, MICE_REPORT)
                                    : mice_check(c->formula->at, c->formula->len, c->trace->at, c->trace->len, counts, MICE_CLAIMS,
                                                 answer, MICE_ANSWER);

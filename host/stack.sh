@@ -5,7 +5,5 @@ lib=${1:?usage: host/stack.sh LIB.a}
 here=$(cd "$(dirname "$0")" && pwd)
 out=$here/../target/host
 mkdir -p "$out"
-how=$("$here/x86.sh")
-eval "$how"
-$CC -std=gnu11 -Wall -Wextra -Werror -O2 -I"$here/../include" "$here/stack.c" "$lib" -lpthread -lm -o "$out/stack"
+${CC:-gcc} -std=gnu11 -Wall -Wextra -Werror -O2 -I"$here/../include" "$here/stack.c" "$lib" -lpthread -lm -o "$out/stack"
 "$out/stack"

@@ -80,14 +80,14 @@ static uint64_t total(int kind, size_t count) {
     }
 }
 
-/* Fills the list with answers: a refused one has any number, and any total, which is not to be read; nor are place, step and cause. */
+/* Fills the list with answers: a refused one has any number, and any total, which is not to be read. */
 static void fill_list(size_t count, uint64_t refusing) {
     int kind = (int)below(4);
     for (size_t i = 0; i < MOST / MICE_ANSWER; i++) {
         uint64_t *a = list + MICE_ANSWER * i;
         int refused = below(8) < refusing;
         a[0] = refused ? (below(2) ? 1 + below(34) : draw() | 1) : 0;
-        a[1] = draw(), a[3] = draw(), a[4] = draw();
+        a[1] = draw();
         a[2] = refused && below(2) ? draw() : total(kind, count);
     }
 }
@@ -148,35 +148,10 @@ static void boundaries(void) {
     free(zeros);
 }
 
-/* ---- answers that the check wrote: what is summed are totals over all declared variables */
-
-/* The answer for no clauses over so many variables: one claim of count 1, so the total is 2 to that number. */
-static void check_switches(int16_t variables, uint64_t *answer) {
-    static const int16_t trace[] = {1, 1, 0, 1, 0, 0, 1, 1, 1, 1, 0};
-    int16_t formula[] = {variables, 0};
-    uint64_t count = 0;
-    mice_check(formula, 2, trace, sizeof trace / sizeof *trace, &count, 1, answer, MICE_ANSWER);
-    calls++;
-    expect(count == 1, "no clauses", "the count");
-}
-
-static void sums_of_totals(void) {
-    static const int16_t variables[] = {3, 64, 0, 62, 63};                  /* the second is refused with 28 */
-    size_t packs = sizeof variables / sizeof *variables;
-    uint64_t of[MICE_REPORT], want[MICE_REPORT] = {0, 0, packs - 1, 1, 1, 3, UINT64_C(1) << 63, packs, (UINT64_C(3) << 62) + 9};
-    for (size_t i = 0; i < packs; i++) check_switches(variables[i], list + MICE_ANSWER * i);
-    mice_release(list, MICE_ANSWER * packs, of, MICE_REPORT);
-    expect(memcmp(of, want, sizeof want) == 0, "totals over all declared variables", "the report");
-    check_switches(62, list + MICE_ANSWER * packs);
-    expect(mice_release(list, MICE_ANSWER * (packs + 1), of, MICE_REPORT) == 34, "totals that pass 2^64 - 1", "the returned number");
-    calls += 2;
-}
-
 int main(void) {
     setvbuf(stdout, NULL, _IOLBF, 0);           /* what failed is seen even if a later call crashes */
     boundaries();
     sums_at_the_limit();
-    sums_of_totals();
     random_lists();
     printf("%d calls, %d failures: %d reports, %d of 33, %d of 34, %d of 13\n", calls, failures, seen[0], seen[33], seen[34], seen[13]);
     return failures != 0 || !seen[0] || !seen[33] || !seen[34] || !seen[13];

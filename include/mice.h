@@ -12,18 +12,13 @@
  * Nothing else: every content of that memory, and every length, has a defined answer. The functions always return, allocate
  * nothing, keep no pointer and have no state, so any number of threads may call them at once, each with its own written memory.
  *
- * Stack: 37,828 bytes were measured for mice_check, 66,056 for mice_read and 64 for mice_release (x86-64, host/stack.sh);
+ * Stack: 37,088 bytes were measured for mice_check, 66,048 for mice_read and 64 for mice_release (x86-64, host/stack.sh);
  * lend a thread 128 KiB.
  *
- * The answer slice of mice_check has room for at least MICE_ANSWER places, that of mice_read for MICE_READ_ANSWER. It receives
+ * The answer slice of mice_check and mice_read has room for at least MICE_ANSWER places and receives
  *     answer[0]  the refusal number, 0 for accepted (also what the function returns)
  *     answer[1]  the place of the fault, 0 for accepted
- *     answer[2]  mice_check: the total, the number of settings of all declared variables that satisfy every clause;
- *                mice_read: the number of words written; 0 for refused
- *     answer[3]  mice_check only: after MICE_REFUTATION (25) the first step of the refutation that fails, from 1; the closing
- *                citation counts as the step after the last. 0 for every other answer
- *     answer[4]  mice_check only: after MICE_REFUTATION what is wrong with that step, MICE_CAUSE_LEFT to MICE_CAUSE_CLOSE. 0 for every
- *                other answer
+ *     answer[2]  mice_check: the total, the number of settings; mice_read: the number of words written; 0 for refused
  * and further places stay as they are. If it is shorter, the function returns MICE_COUNT_PLACES (13) before all else and
  * writes nothing at all. Only the refusal number tells refused from accepted: an accepted total may be 0.
  *
@@ -47,13 +42,9 @@
 extern "C" {
 #endif
 
-/* The version of the whole tree. The second number goes up with each change request that lands. */
-#define MICE_VERSION "1.5"
-
 /* Limits that help to size the lent memory. */
 enum {
-    MICE_ANSWER = 5,         /* places of the answer slice of a check, and of each answer in a report */
-    MICE_READ_ANSWER = 3,    /* places of the answer slice of a reading */
+    MICE_ANSWER = 3,         /* places of the answer slice */
     MICE_WORDS = 32767,      /* most words of a formula, and of a trace: no text needs more room */
     MICE_CLAIMS = 1024,      /* most claims of a trace: no trace needs more count places */
     MICE_TEXT_BYTES = 65535, /* most bytes of a text */
@@ -87,8 +78,7 @@ enum {
     MICE_REFUTATION = 25,      /* composition: the refutation does not hold */
     MICE_JOIN = 26,            /* join: misfit */
     MICE_EXTENSION = 27,       /* extension: misfit */
-    MICE_COUNT_LARGE = 28,     /* the exact count is above 2^64 - 1; or nothing else is wrong, and the exact total is: the last
-                                  count, times 2 for each declared variable that no clause mentions [the last claim] */
+    MICE_COUNT_LARGE = 28,     /* the exact count is above 2^64 - 1 */
 
     MICE_NOT_WHOLE = 29,       /* all claims hold, but there is none, or the last is not about all clauses with an empty
                                   assumption [claim count] */
@@ -98,30 +88,15 @@ enum {
     MICE_SUM_LARGE = 34        /* the exact sum is above 2^64 - 1 */
 };
 
-/* Causes of MICE_REFUTATION, tested in this order: what is wrong with the step that answer[3] names. */
-enum {
-    MICE_CAUSE_LEFT = 1,       /* the left citation names nothing that this composition has: a clause outside F, a literal that
-                                  is not in A, a premise above their number */
-    MICE_CAUSE_RIGHT = 2,      /* the right citation, likewise */
-    MICE_CAUSE_PIVOT = 3,      /* the left clause has no +pivot, or the right one no -pivot */
-    MICE_CAUSE_RESOLVENT = 4,  /* not just left without +pivot joined with right without -pivot; or that has both signs of a
-                                  variable, so that nothing could be written */
-    MICE_CAUSE_CLOSE = 5       /* all steps hold; the closing citation names nothing that this composition has, or a clause that
-                                  is not empty */
-};
-
 /* Checks a trace against a formula. Returns the refusal number, 0 for accepted.
  *
  *   formula, trace  read only: formula words and trace words
- *   counts          receives one count per claim that holds, claim k at counts[k - 1]: after MICE_ACCEPTED, MICE_NOT_WHOLE and a
- *                   total that is too large those of all claims, after a refusal of claim k itself (21 to 28) those of claims
- *                   1 to k - 1, after 11 to 13 none. All other places stay as they are. To tell the two kinds of 28
- *                   apart, clear the places before the call: after 28 at claim k, counts[k - 1] is still 0 if that claim's own
- *                   count is too large, and its count, which is not 0, if the total is.
+ *   counts          receives one count per claim that holds, claim k at counts[k - 1]: after MICE_ACCEPTED and MICE_NOT_WHOLE
+ *                   those of all claims, after a refusal at claim k (21 to 28) those of claims 1 to k - 1, after 11 to 13
+ *                   none. All other places stay as they are.
  *   answer          see above
  *
- * When several things are wrong: first 11, then 12, then 13; then the claims in order, each by its lowest number; then 29; then
- * 28 by the total. */
+ * When several things are wrong: first 11, then 12, then 13; then the claims in order, each by its lowest number; then 29. */
 uint64_t mice_check(const int16_t *formula, size_t formula_len,
                     const int16_t *trace, size_t trace_len,
                     uint64_t *counts, size_t counts_len,
@@ -146,9 +121,8 @@ uint64_t mice_read(const uint8_t *text, size_t text_len,
  *                   places, not answers.
  *   report          see above
  *
- * When several things are wrong: first 33, then 34. If mice_check wrote the answers, the sum is that of the numbers of settings,
- * over all declared variables, of the accepted formulas. An answer may also be the refused one of a mice_read, with anything in
- * its last two places, but not an accepted one: its total counts words. */
+ * When several things are wrong: first 33, then 34. If mice_check wrote the answers, the sum is that of the numbers of settings of
+ * the accepted formulas. An answer may also be the refused one of a mice_read, but not an accepted one: its total counts words. */
 uint64_t mice_release(const uint64_t *answers, size_t answers_len,
                       uint64_t *report, size_t report_len);
 

@@ -35,7 +35,7 @@ const CHECKERS: [&str; 3] = ["mice", "rust", "plain"];
 struct Lent {
     counts: Vec<u64>,
     room: Vec<i16>,
-    answer: [u64; checker::ANSWER],
+    answer: [u64; 3],
 }
 
 fn by_c(check: Check, read: Read, w: &Workload, lent: &mut Lent) {
@@ -51,33 +51,28 @@ fn by_c(check: Check, read: Read, w: &Workload, lent: &mut Lent) {
                 counts.as_mut_ptr(),
                 counts.len(),
                 answer.as_mut_ptr(),
-                answer.len(),
+                3,
             ),
-            Input::Read { text } => {
-                read(text.as_ptr(), text.len(), room.as_mut_ptr(), room.len(), answer.as_mut_ptr(), answer.len())
-            }
+            Input::Read { text } => read(text.as_ptr(), text.len(), room.as_mut_ptr(), room.len(), answer.as_mut_ptr(), 3),
         }
     };
 }
 
 fn by_rust(w: &Workload, lent: &mut Lent) {
-    match &w.input {
+    lent.answer = match &w.input {
         Input::Check { formula, trace } => {
             let o = checker::check(formula, trace, lent.counts.len());
             lent.counts[..o.counts.len()].copy_from_slice(&o.counts);
-            lent.answer = o.answer();
+            [o.number, o.place, o.total]
         }
-        Input::Read { text } => {
-            let answer = match text::read(text, lent.room.len()) {
-                Ok(words) => {
-                    lent.room[..words.len()].copy_from_slice(&words);
-                    [0, 0, words.len() as u64]
-                }
-                Err((number, place)) => [number, place, 0],
-            };
-            lent.answer[..text::ANSWER].copy_from_slice(&answer);
-        }
-    }
+        Input::Read { text } => match text::read(text, lent.room.len()) {
+            Ok(words) => {
+                lent.room[..words.len()].copy_from_slice(&words);
+                [0, 0, words.len() as u64]
+            }
+            Err((number, place)) => [number, place, 0],
+        },
+    };
 }
 
 fn call(which: usize, w: &Workload, lent: &mut Lent) {
@@ -123,11 +118,10 @@ fn prepared(workload: Workload, lent: &mut Lent) -> Run {
     let w = &workload;
     let mut calls = [1; 3];
     let mut slowest: f64 = 0.0;
-    let mut first: Option<([u64; checker::ANSWER], Vec<u64>, Vec<i16>)> = None;
+    let mut first: Option<([u64; 3], Vec<u64>, Vec<i16>)> = None;
     for which in 0..3 {
         lent.counts.fill(0);
         lent.room.fill(0);
-        lent.answer.fill(0);
         let once = timed(which, w, lent, 1);
         let said = (lent.answer, lent.counts.clone(), lent.room.clone());
         assert!([0, 29].contains(&said.0[0]), "{} {}: refused {} at {}", w.group, w.name, said.0[0], said.0[1]);
@@ -145,7 +139,7 @@ fn prepared(workload: Workload, lent: &mut Lent) -> Run {
 }
 
 fn main() {
-    let mut lent = Lent { counts: vec![0; 1024], room: vec![0; 32767], answer: [0; checker::ANSWER] };
+    let mut lent = Lent { counts: vec![0; 1024], room: vec![0; 32767], answer: [0; 3] };
     let mut runs: Vec<Run> = workload::all().into_iter().map(|w| prepared(w, &mut lent)).collect();
     let r = &mut Random::new(1, 0);
     let mut order: Vec<usize> = (0..runs.len()).collect();

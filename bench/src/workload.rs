@@ -214,22 +214,6 @@ fn joins(words: usize) -> (Cnf, Trace) {
     (cnf, t)
 }
 
-/// A long formula with few claims, whose total also counts variables that no clause mentions: most of the work is to read it.
-fn long_formula(words: usize) -> (Cnf, Trace) {
-    // the first clause is {1}, and all others have a 1 too
-    let clause = |i: usize| [1].into_iter().chain((0..14).map(|k| (2 + i % 4 + 4 * k) as i16)).collect();
-    let mut cnf = Cnf { n: 60, clauses: vec![vec![1]] };
-    cnf.clauses.extend((1..words / 16).map(clause));
-    let step = Step { pivot: 1, left: (1, 1), right: (3, 1), resolvent: vec![] };
-    let t = Trace {
-        subformulas: vec![vec![], numbers(cnf.clauses.len())],
-        assumptions: vec![vec![], vec![1]],
-        refutations: vec![Refutation { steps: vec![step], closing: (4, 1) }],
-        claims: vec![claim(1, 1, 1, []), claim(4, 2, 2, [1]), claim(2, 2, 1, [1, 2])],
-    };
-    (cnf, t)
-}
-
 /// A text of so many bytes: clauses of `len` literals in falling order, which have to be sorted.
 fn text(bytes: usize, len: usize, n: usize) -> Vec<u8> {
     let line = |i: usize| {
@@ -268,7 +252,6 @@ pub fn all() -> Vec<Workload> {
     check("full size", "short steps, cited often", short_steps(WORDS, 4, true));
     check("full size", "63 premises", many_premises(WORDS, 0));
     check("full size", "joins", joins(WORDS));
-    check("full size", "formula", long_formula(WORDS));
     check("worst case", "long resolvents", long_resolvents(WORDS));
     check("worst case", "63 long premises", many_premises(WORDS, 100));
     for size in SIZES {

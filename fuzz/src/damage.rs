@@ -212,29 +212,3 @@ pub fn text(r: &mut Random, text: &mut Vec<u8>) {
         _ => text.extend(r.pick(&tokens)),
     }
 }
-
-#[cfg(test)]
-mod tests {
-    use super::*;
-    use crate::{checker, generate};
-
-    /// Damage makes refutations fail by every cause, in the first step and in a later one.
-    #[test]
-    fn every_cause() {
-        let (mut first, mut later) = ([0; 6], [0; 6]);
-        for case in 0..6000 {
-            let r = &mut Random::new(7, case);
-            let (mut cnf, mut trace) = generate::sound(r);
-            meaning(r, &mut cnf, &mut trace);
-            let checker::Outcome { number, step, cause, .. } = checker::check(&cnf.words(), &trace.words(), 1024);
-            assert_eq!(number == 25, cause > 0 && step > 0, "case {case}: {number}, step {step}, cause {cause}");
-            if step == 1 {
-                first[cause as usize] += 1;
-            } else {
-                later[cause as usize] += 1;
-            }
-        }
-        println!("causes 1 to 5: {:?} in the first step, {:?} in later ones", &first[1..], &later[1..]);
-        assert!(first[1..].iter().chain(&later[1..]).all(|&k| k > 10));
-    }
-}

@@ -16,15 +16,6 @@ fn renamed(r: &mut Random, mut cnf: Cnf) -> Cnf {
     cnf
 }
 
-/// Now and then more variables are declared than the clauses can mention: a few, so many that the total comes near 2^64, or all.
-fn declared(r: &mut Random, mut cnf: Cnf) -> Cnf {
-    if r.one_in(4) {
-        let more = r.pick(&[1, 2, 3, 30, 58, 59, 60, 61, 62, 63, 64, 65, 512]);
-        cnf.n = (cnf.n + more).min(512);
-    }
-    cnf
-}
-
 fn clause(r: &mut Random, n: usize, len: usize) -> Vec<i16> {
     r.some_of(n, len.min(n)).into_iter().map(|v| r.sign(v)).collect()
 }
@@ -76,7 +67,6 @@ pub fn sound(r: &mut Random) -> (Cnf, Trace) {
     loop {
         let wide = r.one_in(8);
         let cnf = if wide { wide_cnf(r) } else { small_cnf(r) };
-        let cnf = declared(r, cnf);
         let all: Vec<i16> = (1..=cnf.clauses.len() as i16).collect();
         let targets = if r.one_in(6) { r.from(0..=3) } else { 0 };
         let mut goals: Vec<_> = (0..targets).map(|_| part_of(r, &cnf, if wide { 20 } else { 3 })).collect();
@@ -245,23 +235,15 @@ pub fn text_cnf(r: &mut Random) -> Cnf {
 mod tests {
     use super::*;
     use crate::checker;
-    use std::collections::BTreeSet;
 
-    /// Sound traces are never refused but for a count or total that is too large (28) or an end that isn't the whole (29), and
-    /// they use every rule and every kind of citation. Variables that no clause mentions show in many of the answers.
+    /// Sound traces are never refused but for a count that is too large (28) or an end that isn't the whole (29), and they use
+    /// every rule and every kind of citation.
     #[test]
     fn sound_traces_hold() {
         let (mut rules, mut kinds) = ([0; 5], [0; 5]);
-        let (mut larger, mut too_large, mut still_none, mut not_whole) = (0, 0, 0, 0);
         for case in 0..3000 {
             let (cnf, trace) = sound(&mut Random::new(7, case));
-            let checker::Outcome { number, total, counts, .. } = checker::check(&cnf.words(), &trace.words(), 1024);
-            let mentioned: BTreeSet<i16> = cnf.clauses.iter().flatten().map(|l| l.abs()).collect();
-            let many = cnf.n - mentioned.len() >= 64;
-            larger += (number == 0 && counts.last() != Some(&total)) as usize;
-            too_large += (number == 28 && counts.len() == trace.claims.len()) as usize;
-            still_none += (number == 0 && total == 0 && many) as usize;
-            not_whole += (number == 29 && many) as usize;
+            let number = checker::check(&cnf.words(), &trace.words(), 1024).number;
             assert!([0, 12, 28, 29].contains(&number), "case {case}: {number}");
             assert!(number != 12 || trace.words().len() > 32767 || trace.refutations.len() > 256, "case {case}: malformed");
             trace.claims.iter().for_each(|c| rules[c.rule as usize] += 1);
@@ -271,8 +253,6 @@ mod tests {
             }
         }
         println!("rules {rules:?}, kinds {kinds:?}");
-        println!("totals {larger} larger than the last count, {too_large} too large, {still_none} 0; {not_whole} not whole");
         assert!(rules[1..].iter().chain(&kinds[1..]).all(|&k| k > 1000));
-        assert!(larger > 300 && too_large > 150 && still_none > 30 && not_whole > 30);
     }
 }

@@ -52,10 +52,10 @@ struct Seen {
 
 fn make(seed: u64, number: u64) -> Case {
     let r = &mut Random::new(seed, number);
+    let answer = if r.one_in(25) { r.below(3) } else { r.from(3..=5) };
     if r.one_in(3) {
-        return make_read(r);
+        return make_read(r, answer);
     }
-    let answer = answer_places(r, checker::ANSWER);
     let (formula, trace) = if r.one_in(300) { generate::at_limit(r) } else { make_check(r) };
     let claims = checker::claim_count(&formula, &trace).unwrap_or(2);
     let room = match r.below(20) {
@@ -64,15 +64,6 @@ fn make(seed: u64, number: u64) -> Case {
         _ => claims + r.from(1..=4),
     };
     Case { input: Input::Check { formula, trace }, room, answer }
-}
-
-/// As many places as are needed or some more, now and then too few.
-fn answer_places(r: &mut Random, needed: usize) -> usize {
-    if r.one_in(25) {
-        r.below(needed)
-    } else {
-        r.from(needed..=needed + 2)
-    }
 }
 
 fn make_check(r: &mut Random) -> (Vec<i16>, Vec<i16>) {
@@ -93,8 +84,7 @@ fn make_check(r: &mut Random) -> (Vec<i16>, Vec<i16>) {
     (formula, trace)
 }
 
-fn make_read(r: &mut Random) -> Case {
-    let answer = answer_places(r, text::ANSWER);
+fn make_read(r: &mut Random, answer: usize) -> Case {
     let cnf = generate::text_cnf(r);
     let mut text = generate::text(r, &cnf);
     if !r.one_in(3) {
@@ -203,28 +193,28 @@ fn over<T: Copy>(written: &[T], lent: &mut [T]) {
 /// What it should do.
 fn expected(case: &Case) -> Seen {
     let mut seen = Seen { returned: 13, answer: (0..case.answer).map(answer_fill).collect(), counts: vec![], words: vec![] };
-    let say = |seen: &mut Seen, answer: &[u64]| {
+    let say = |seen: &mut Seen, answer: [u64; 3]| {
         seen.returned = answer[0];
-        over(answer, &mut seen.answer);
+        over(&answer, &mut seen.answer);
     };
     match &case.input {
         Input::Check { formula, trace } => {
             seen.counts = (0..case.room).map(count_fill).collect();
-            if case.answer >= checker::ANSWER {
+            if case.answer >= 3 {
                 let outcome = checker::check(formula, trace, case.room);
                 over(&outcome.counts, &mut seen.counts);
-                say(&mut seen, &outcome.answer());
+                say(&mut seen, [outcome.number, outcome.place, outcome.total]);
             }
         }
         Input::Read { text } => {
             seen.words = vec![WORD_FILL; case.room];
-            if case.answer >= text::ANSWER {
+            if case.answer >= 3 {
                 match text::read(text, case.room) {
                     Ok(words) => {
                         over(&words, &mut seen.words);
-                        say(&mut seen, &[0, 0, words.len() as u64]);
+                        say(&mut seen, [0, 0, words.len() as u64]);
                     }
-                    Err((number, place)) => say(&mut seen, &[number, place, 0]),
+                    Err((number, place)) => say(&mut seen, [number, place, 0]),
                 }
             }
         }
@@ -245,16 +235,13 @@ fn compared(case: &Case, wanted: &Seen) -> Option<String> {
     }
 }
 
-/// Counts of claims that hold, and an accepted total, are held to their definition, over all settings of up to 8 variables.
+/// Counts of claims that hold are held to their definition, over all settings of up to 8 variables.
 fn counts_by_settings(case: &Case) -> Option<String> {
     let Input::Check { formula, trace } = &case.input else { return None };
-    let checker::Outcome { number, total, counts, .. } = checker::check(formula, trace, usize::MAX);
+    let counts = checker::check(formula, trace, usize::MAX).counts;
     let settings = checker::settings(formula, trace, 8);
-    if let Some(wrong) = counts.iter().zip(&settings).position(|(c, s)| s.is_some_and(|s| s != *c)) {
-        return Some(format!("; claim {}: count {}, but {:?} settings\n", wrong + 1, counts[wrong], settings[wrong]));
-    }
-    let settings = checker::total_by_settings(formula, 8).filter(|&s| number == 0 && s != total)?;
-    Some(format!("; total {total}, but {settings} settings\n"))
+    let wrong = counts.iter().zip(&settings).position(|(c, s)| s.is_some_and(|s| s != *c))?;
+    Some(format!("; claim {}: count {}, but {:?} settings\n", wrong + 1, counts[wrong], settings[wrong]))
 }
 
 // ---- a difference: made small, written down, read again
@@ -386,17 +373,12 @@ fn replay(file: &str) -> i32 {
     told.is_some() as i32
 }
 
-/// Refused with 28, though every claim has its count: by the total.
-fn total_too_large(wanted: &Seen) -> bool {
-    wanted.returned == 28 && wanted.counts[wanted.answer[1] as usize - 1] != count_fill(wanted.answer[1] as usize - 1)
-}
-
 /// How often each answer came, and which never did.
-fn histogram(title: &str, numbers: &[usize], name: impl Fn(usize) -> String, seen: &[u64]) {
+fn histogram(title: &str, numbers: &[usize], seen: &[u64; 30]) {
     let all: u64 = seen.iter().sum();
     println!("{title}: {all} cases");
     for &n in numbers {
-        let name = name(n);
+        let name = if n == 0 { "accepted".to_string() } else { format!("refused {n}") };
         println!(
             "  {name:<11}{:>10} {:>6.2} %{}",
             seen[n],
@@ -407,8 +389,8 @@ fn histogram(title: &str, numbers: &[usize], name: impl Fn(usize) -> String, see
 }
 
 fn run(o: &Options) -> i32 {
-    let (mut checks, mut reads, mut causes) = ([0u64; 30], [0u64; 30], [0u64; 6]);
-    let (mut differences, mut counted, mut totals) = (0, 0, 0);
+    let (mut checks, mut reads) = ([0u64; 30], [0u64; 30]);
+    let (mut differences, mut counted) = (0, 0);
     let start = Instant::now();
     let mut told = start;
     let mut done = 0;
@@ -419,15 +401,9 @@ fn run(o: &Options) -> i32 {
         let case = make(o.seed, number);
         let wanted = expected(&case);
         match case.input {
-            Input::Check { .. } => {
-                checks[wanted.returned as usize] += 1;
-                if wanted.returned == 25 {
-                    causes[wanted.answer[4] as usize] += 1;
-                }
-            }
+            Input::Check { .. } => checks[wanted.returned as usize] += 1,
             Input::Read { .. } => reads[wanted.returned as usize] += 1,
         }
-        totals += total_too_large(&wanted) as u64;
         let by_settings = number % 16 == 0;
         counted += by_settings as u64;
         if compared(&case, &wanted).is_some() || by_settings && counts_by_settings(&case).is_some() {
@@ -448,11 +424,8 @@ fn run(o: &Options) -> i32 {
             break;
         }
     }
-    let answer = |n: usize| if n == 0 { "accepted".to_string() } else { format!("refused {n}") };
-    histogram("check", &[0, 11, 12, 13, 21, 22, 23, 24, 25, 26, 27, 28, 29], answer, &checks);
-    println!("  {totals} of 28 by the total");
-    histogram("refused 25", &[1, 2, 3, 4, 5], |n| format!("cause {n}"), &causes);
-    histogram("text", &[0, 1, 2, 3, 4, 5, 6, 7, 13], answer, &reads);
+    histogram("check", &[0, 11, 12, 13, 21, 22, 23, 24, 25, 26, 27, 28, 29], &checks);
+    histogram("text", &[0, 1, 2, 3, 4, 5, 6, 7, 13], &reads);
     println!(
         "{done} cases with seed {}, {counted} of them by settings too, {:.1} s, {differences} differences",
         o.seed,

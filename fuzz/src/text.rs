@@ -1,8 +1,5 @@
 //! The reader of DIMACS text, written from document 01 alone.
 
-/// Places that the answer to a reading takes.
-pub const ANSWER: usize = 3;
-
 /// The formula words of a text for a room of so many places, or refusal number and place.
 pub fn read(text: &[u8], room: usize) -> Result<Vec<i16>, (u64, u64)> {
     if text.len() > 65535 {

@@ -1,7 +1,7 @@
 -- The whole text: its header's line, its clauses, and the room. Assumes nothing.
 use mathlib.Core.Path.{◌≡◌, refl, sym, ap, ap₂, subst, ◌∙◌}
 use mathlib.Core.Bool.{◌&&◌, cond}
-use mathlib.Core.List.{List, [], ◌++◌}
+use mathlib.Core.List.{List, ◌++◌}
 use mathlib.Core.Option.{none, some}
 use Prim.Native.Nat.{ℕ, ◌<◌, ◌≤◌}
 use native.Mathlib.Omega.{arith}
@@ -32,7 +32,7 @@ use Rattle.dimacs.specs.Formed.{clauses_from, Headed, Formed}
 -- ---- the header's line
 
 module _ (t : List ℕ) (at : ℕ) (f : FirstLine t at) where
-  pub no_header : at ≡ length t → Formed (headed small (length t) (lines t)) (Faulty 2 at) []
+  pub no_header : at ≡ length t → {words : List ℤ} → Formed (headed small (length t) (lines t)) (Faulty 2 at) words
   no_header e = rw (f.same ∙ lines_none t at (omega (arith, e))) (record { answer_is = ap (Faulty 2) e; held = tt })
 
   module _ (n : at ≡ length t → ⊥) where
@@ -50,7 +50,7 @@ module _ (t : List ℕ) (at : ℕ) (f : FirstLine t at) where
       of_line : head_read h ≡ header small l
       of_line = r ∙ ap (λ e. header small (piece at (drop at (take e t)))) i ∙ ap (λ bs. header small (piece at bs)) (up_to t at f.within)
 
-      pub bad_header : h ≡ heads.Bad → Formed (headed small (length t) (lines t)) (Faulty 2 at) []
+      pub bad_header : h ≡ heads.Bad → {words : List ℤ} → Formed (headed small (length t) (lines t)) (Faulty 2 at) words
       bad_header b =
           let z : header small l ≡ none = sym of_line ∙ ap head_read b in
           let q : headed small (length t) (lines t) ≡ faulty 2 at = by_line ∙ rw z in
@@ -60,18 +60,12 @@ module _ (t : List ℕ) (at : ℕ) (f : FirstLine t at) where
         sizes : header small l ≡ some (v, m)
         sizes = sym of_line ∙ ap head_read b
 
-        by_clauses : headed small (length t) (lines t) ≡ clauses_from v m t end
+        pub is_headed : Headed t end v m
+        is_headed = let z = subst (Each (Sizes small)) sizes (header_fits small l) in record { within = rw i (line_within t at f.within); few_variables = z.0; few_clauses = z.1 }
+
+        pub by_clauses : headed small (length t) (lines t) ≡ clauses_from v m t end
         unfolding clauses_from
         by_clauses = by_line ∙ rw (sizes, after_tokens t at, i)
-
-        pub is_headed : Headed t end v m
-        is_headed =
-            let z = subst (Each (Sizes small)) sizes (header_fits small l) in
-            record { within = rw i (line_within t at f.within); few_variables = z.0; few_clauses = z.1; rest = by_clauses }
-
--- what is formed of the clauses is formed of the text
-pub all_formed : {t : List ℕ} {start n m : ℕ} → Headed t start n m → {r : TextAnswer} {words : List ℤ} → Formed (clauses_from n m t start) r words → Formed (headed small (length t) (lines t)) r words
-all_formed h F = rw h.rest F
 
 -- ---- the room
 

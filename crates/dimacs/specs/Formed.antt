@@ -4,7 +4,7 @@ use Rattle.meaning.specs.declared.TextAnswer.{TextAnswer}
 use Rattle.meaning.specs.declared.TextAnswer.TheVariants.{Words, Faulty}
 use Rattle.meaning.specs.Limits.{small}
 use Rattle.meaning.specs.Form.{Cnf}
-use Rattle.meaning.specs.Text.{Text, sound, faulty, ◌>>=◌, lines, headed, body, whole, formula_words}
+use Rattle.meaning.specs.Text.{Text, sound, faulty, ◌>>=◌, body, whole, formula_words}
 use Rattle.tokens.specs.Scan.{tokens_from}
 
 -- a clause that has ended is written: its length and its literals
@@ -27,7 +27,6 @@ pub record Headed (text : List ℕ) (start n m : ℕ) : Type 0 where
   pub within : start ≤ length text
   pub few_variables : n ≤ small.variables
   pub few_clauses : m ≤ small.clauses
-  pub rest : headed small (length text) (lines text) ≡ clauses_from n m text start
 
 abbrev pub answer_of : Text Cnf → TextAnswer
 answer_of (sound f) = Words (length (formula_words f))

@@ -4,6 +4,7 @@
 ghost use Rattle.std.specs.Prelude.{◌≡◌, ◌&&◌, ◌+◌, ◌-◌, ◌<◌, ◌≤◌, ltb, eqb, ◌∷◌, [], length, take, pos};
 ghost use Rattle.tokens.specs.Numbers.{literal_of};
 ghost use Rattle.meaning.specs.Limits.{small};
+ghost use Rattle.meaning.specs.Text.{lines, headed};
 ghost use Rattle.meaning.specs.Promise.{TextRead};
 ghost use Rattle.dimacs.specs.Clause.{var_at, Between, Spot, Spliced, Copied, Begun, Added};
 ghost use Rattle.dimacs.specs.Formed.{Closed, clauses_from, Roomy, Headed, Formed};
@@ -14,8 +15,6 @@ use tokens::{Header, Signed};
 const TEXT_BYTES: usize = 65535;
 
 const SHORT_TEXT: usize = 2048;
-
-const MIDDLE_TEXT: usize = 16384;
 
 const WORDS: usize = 32767;
 
@@ -200,20 +199,28 @@ fn clauses(
 
 // ---- the whole text
 
+// The words of the text's formula, into a buffer that is long enough.
+fn formula(text: &[u8], clause: &mut [i16], words: &mut [i16]) -> TextAnswer
+    requires { Roomy text.now clause.old words.old }
+    ensures { Formed (headed small (length text.now) (lines text.now)) result words.new }
+{
+    let at = tokens::first_line(text);
+    if at == text.len() {
+        return TextAnswer::Faulty(2, at);
+    }
+    let end = tokens::line_end(text, at);
+    let Header::Sizes(n, m) = tokens::header_of(&text[..end], at) else {
+        return TextAnswer::Faulty(2, at);
+    };
+    clauses(text, end, n, m, clause, words)
+}
+
 // The room is written once all is known to be sound.
-fn read_by(
-    text: &[u8],
-    start: usize,
-    n: usize,
-    m: usize,
-    room: &mut [i16],
-    clause: &mut [i16],
-    words: &mut [i16],
-) -> TextAnswer
-    requires { Headed text.now start n m × Roomy text.now clause.old words.old }
+fn read_by(text: &[u8], room: &mut [i16], clause: &mut [i16], words: &mut [i16]) -> TextAnswer
+    requires { Roomy text.now clause.old words.old }
     ensures { TextRead small text.now room.old result room.new }
 {
-    match clauses(text, start, n, m, clause, words) {
+    match formula(text, clause, words) {
         TextAnswer::Faulty(number, place) => TextAnswer::Faulty(number, place),
         TextAnswer::Words(used) => {
             if room.len() < used {
@@ -228,62 +235,34 @@ fn read_by(
     }
 }
 
-// A buffer for any text, and two that are cleared sooner, for shorter texts.
-fn read_long(text: &[u8], start: usize, n: usize, m: usize, room: &mut [i16]) -> TextAnswer
-    requires { Headed text.now start n m × (length text.now ≤ 65535) }
+// A buffer for any text, and one that is cleared faster for a short text.
+fn read_long(text: &[u8], room: &mut [i16]) -> TextAnswer
+    requires { length text.now ≤ 65535 }
     ensures { TextRead small text.now room.old result room.new }
 {
     let mut clause = [0i16; 64];
     let mut words = [0i16; 32772];
-    read_by(text, start, n, m, room, &mut clause, &mut words)
+    read_by(text, room, &mut clause, &mut words)
 }
 
-fn read_middle(text: &[u8], start: usize, n: usize, m: usize, room: &mut [i16]) -> TextAnswer
-    requires { Headed text.now start n m × (length text.now ≤ 16384) }
-    ensures { TextRead small text.now room.old result room.new }
-{
-    let mut clause = [0i16; 64];
-    let mut words = [0i16; 8196];
-    read_by(text, start, n, m, room, &mut clause, &mut words)
-}
-
-fn read_short(text: &[u8], start: usize, n: usize, m: usize, room: &mut [i16]) -> TextAnswer
-    requires { Headed text.now start n m × (length text.now ≤ 2048) }
+fn read_short(text: &[u8], room: &mut [i16]) -> TextAnswer
+    requires { length text.now ≤ 2048 }
     ensures { TextRead small text.now room.old result room.new }
 {
     let mut clause = [0i16; 64];
     let mut words = [0i16; 1028];
-    read_by(text, start, n, m, room, &mut clause, &mut words)
+    read_by(text, room, &mut clause, &mut words)
 }
 
-// What follows the header.
-fn read_rest(text: &[u8], start: usize, n: usize, m: usize, room: &mut [i16]) -> TextAnswer
-    requires { Headed text.now start n m × (length text.now ≤ 65535) }
-    ensures { TextRead small text.now room.old result room.new }
-{
-    if text.len() <= SHORT_TEXT {
-        return read_short(text, start, n, m, room);
-    }
-    if text.len() <= MIDDLE_TEXT {
-        return read_middle(text, start, n, m, room);
-    }
-    read_long(text, start, n, m, room)
-}
-
-// Reads a text into the room: how many words it wrote, or refusal number and place. No buffer is cleared before the header is known.
+// Reads a text into the room: how many words it wrote, or refusal number and place.
 pub fn read(text: &[u8], room: &mut [i16]) -> TextAnswer
     ensures { TextRead small text.now room.old result room.new }
 {
     if TEXT_BYTES < text.len() {
         return TextAnswer::Faulty(1, TEXT_BYTES);
     }
-    let at = tokens::first_line(text);
-    if at == text.len() {
-        return TextAnswer::Faulty(2, at);
+    if text.len() <= SHORT_TEXT {
+        return read_short(text, room);
     }
-    let end = tokens::line_end(text, at);
-    let Header::Sizes(n, m) = tokens::header_of(&text[..end], at) else {
-        return TextAnswer::Faulty(2, at);
-    };
-    read_rest(text, end, n, m, room)
+    read_long(text, room)
 }

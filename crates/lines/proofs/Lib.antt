@@ -1,4 +1,3 @@
+pub mod Kept
 pub mod Program
 pub mod Most
-pub mod Seen
-pub mod Started

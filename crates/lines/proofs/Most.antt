@@ -1,4 +1,4 @@
--- The program prints no more than its buffer holds, in both modes: at most 1,024 claim lines of 38 bytes and a last line of 88. Assumes nothing.
+-- The program prints no more than its buffer holds: at most 1,024 claim lines of 38 bytes and a last line of 53. Assumes nothing.
 use mathlib.Core.Path.{◌≡◌, refl}
 use mathlib.Core.Bool.{Bool, true, false, cond}
 use mathlib.Core.List.{List, [], ◌∷◌, ◌++◌}
@@ -11,17 +11,15 @@ use lib.Dec.{ltb, eqb, lit<}
 use lib.IntN.{ℤ}
 use lib.ListN.{length, length-append, length-map}
 use Rattle.meaning.specs.declared.Verdict.{Verdict}
-use Rattle.meaning.specs.declared.Verdict.TheVariants.{Accepted, Refused, Unrefuted}
-use Rattle.meaning.specs.declared.Mode.{Mode}
-use Rattle.meaning.specs.declared.Mode.TheVariants.{Quiet, All}
+use Rattle.meaning.specs.declared.Verdict.TheVariants.{Accepted, Refused}
 use Rattle.meaning.specs.Lists.{first_failing}
 use Rattle.meaning.specs.Meaning.{Formula, Claim}
 use Rattle.meaning.specs.Limits.{Limits, small}
 use Rattle.meaning.specs.Read.{Read, ok, bad}
 use Rattle.meaning.specs.Form.{Line, Entry, Trace, formula, trace}
-use Rattle.meaning.specs.Verdict.{Way, Rule, Counted, Outcome, Failure, unrefuted_number, by_settings, after, go_on, claim_of, rule_of, table, counted, judge, when_read, check}
+use Rattle.meaning.specs.Verdict.{Way, Rule, Counted, Outcome, by_settings, after, go_on, claim_of, rule_of, table, counted, judge, when_read, check}
 use Rattle.meaning.specs.Text.{Text, sound, faulty, dimacs}
-use Rattle.meaning.specs.Lines.{digits, count_lines, last_line, words_of, check_lines, text_lines, program}
+use Rattle.meaning.specs.Lines.{digits, count_lines, last_line, words_of, text_lines, program}
 use Rattle.render.specs.Shown.{shown, named, claim_line, claim_lines, verdict_line}
 use Rattle.render.proofs.Digits.{few_digits, few_more}
 use Rattle.render.proofs.Lines.{lines_are}
@@ -40,10 +38,6 @@ four_digits : (n : ℕ) → n < 10000 → length (shown n) ≤ 4
 unfolding shown
 four_digits n h = fewer 3 20 n h
 
-two_digits : length (shown unrefuted_number) ≤ 2
-unfolding shown
-two_digits = fewer 1 20 unrefuted_number (omega arith)
-
 -- ---- lines
 
 claim_short : (k c : ℕ) → k < 10000 → length (claim_line k c) ≤ 38
@@ -54,15 +48,14 @@ claims_short : (k : ℕ) (cs : List ℕ) → k + length cs ≤ 10000 → length 
 claims_short k [] h = omega arith
 claims_short k (c ∷ cs) h = rw (length-append (claim_line k c) (claim_lines (suc k) cs)) (omega (arith, claim_short k c (omega arith), claims_short (suc k) cs (omega arith)))
 
-verdict_short : (v : Verdict) → length (verdict_line v) ≤ 88
+verdict_short : (v : Verdict) → length (verdict_line v) ≤ 53
 unfolding named
 verdict_short (Accepted total) = simp length-append (omega (arith, few_digits total))
 verdict_short (Refused number place) = simp length-append (omega (arith, few_digits number, few_digits place))
-verdict_short (Unrefuted k step cause) = simp length-append (omega (arith, two_digits, few_digits k, few_digits step, few_digits cause))
 
 -- they fit the program's buffer
 pub record Short (lines : List ℕ) : Type 0 where
-  pub few : length lines ≤ 39000
+  pub few : length lines ≤ 38965
 
 lines_short : (counts : List ℕ) (v : Verdict) → length counts ≤ 1024 → Short (count_lines 1 counts ++ last_line v)
 lines_short counts v h =
@@ -85,8 +78,8 @@ few_judged way L n φ t before (l ∷ ls) =
     let more = counted way L n φ c r in
     go (first_failing (table way L n φ c r)) (judge way L n φ t (before ++ more) ls) (omega (arith, few_judged way L n φ t (before ++ more) ls, length-append before more, at_most_one way L n φ c r))
   where
-    go : (o : Option Failure) (rest : Outcome) → length rest.counts ≤ length before + suc (length ls) → length (go_on before o rest).counts ≤ length before + suc (length ls)
-    go (some failure) rest h = omega (arith, length-map before (λ e. e.count))
+    go : (o : Option ℕ) (rest : Outcome) → length rest.counts ≤ length before + suc (length ls) → length (go_on before o rest).counts ≤ length before + suc (length ls)
+    go (some number) rest h = omega (arith, length-map before (λ e. e.count))
     go none rest h = h
 
 few_read : {A : Type 0} (number places : ℕ) (r : Read A) (f : A → Outcome) → ((a : A) → length (f a).counts ≤ places) → length (when_read number r f).counts ≤ places
@@ -112,21 +105,17 @@ few_counts way L places fw tw =
 refusal_short : (number place : ℕ) → Short (last_line (Refused number place))
 refusal_short number place = lines_short [] (Refused number place) (omega arith)
 
-check_short : (mode : Mode) (o : Outcome) → length o.counts ≤ 1024 → Short (check_lines mode o)
-check_short Quiet o h = lines_short [] o.says (omega arith)
-check_short All o h = lines_short o.counts o.says h
-
 either : (b : Bool) {xs ys : List ℕ} → Short xs → Short ys → Short (cond b xs ys)
 either true p q = p
 either false p q = q
 
-text_short : (mode : Mode) (d : Text (List ℤ)) (trace : List ℕ) → Short (text_lines small mode d trace)
-text_short mode (sound fw) trace =
+text_short : (d : Text (List ℤ)) (trace : List ℕ) → Short (text_lines small d trace)
+text_short (sound fw) trace =
+    let o = check by_settings small 1024 fw (words_of trace) in
     either (ltb 65534 (length trace)) (refusal_short 12 32767)
-    (either (eqb (length trace % 2) 1) (refusal_short 12 (length trace / 2))
-    (check_short mode (check by_settings small 1024 fw (words_of trace)) (few_counts by_settings small 1024 fw (words_of trace))))
-text_short mode (faulty number place) trace = refusal_short number place
+    (either (eqb (length trace % 2) 1) (refusal_short 12 (length trace / 2)) (lines_short o.counts o.says (few_counts by_settings small 1024 fw (words_of trace))))
+text_short (faulty number place) trace = refusal_short number place
 
-pub program_short : (mode : Mode) (text trace : List ℕ) → Short (program small mode text trace)
+pub program_short : (text trace : List ℕ) → Short (program small text trace)
 unfolding program
-program_short mode text trace = text_short mode (dimacs small 32767 text) trace
+program_short text trace = text_short (dimacs small 32767 text) trace

@@ -3,14 +3,14 @@
 
 ghost use Rattle.std.specs.Prelude.{◌≤◌, ◌≡◌, ◌∷◌, [], length};
 ghost use Rattle.meaning.specs.Limits.{small};
-ghost use Rattle.meaning.specs.Promise.{answer_places, answer_of, number_of, text_places, text_answer_of, text_number_of, over, Hosted, HostedText};
+ghost use Rattle.meaning.specs.Promise.{answer_places, answer_of, number_of, over, Hosted, HostedText};
 ghost use Rattle.release.specs.Report.{report_places, places_of, reported, refusal_of, HostedReport};
 
 use meaning::{TextAnswer, Verdict};
 use release::{Figures, Totals};
 
-// How many places the answer of a reading has.
-const TEXT_PLACES: usize = 3;
+// How many places an answer has.
+const ANSWER_PLACES: usize = 3;
 
 // How many places a report has.
 const REPORT_PLACES: usize = 9;
@@ -18,16 +18,14 @@ const REPORT_PLACES: usize = 9;
 // The refusal of a slice that has fewer.
 const SHORT_ANSWER: u64 = 13;
 
-// Writes the five places of an answer.
-fn put(answer: &mut [u64], number: u64, place: u64, total: u64, step: u64, cause: u64)
+// Writes the three places of an answer.
+fn put(answer: &mut [u64], number: u64, place: u64, total: u64)
     requires { answer_places ≤ length answer.old }
-    ensures { answer.new ≡ over (number ∷ place ∷ total ∷ step ∷ cause ∷ []) answer.old }
+    ensures { answer.new ≡ over (number ∷ place ∷ total ∷ []) answer.old }
 {
     answer[0] = number;
     answer[1] = place;
     answer[2] = total;
-    answer[3] = step;
-    answer[4] = cause;
 }
 
 // Writes a verdict, and answers its number.
@@ -38,17 +36,12 @@ fn say(verdict: Verdict, answer: &mut [u64]) -> u64
 {
     match verdict {
         Verdict::Accepted(total) => {
-            put(answer, 0, 0, total, 0, 0);
+            put(answer, 0, 0, total);
             0
         }
         Verdict::Refused(number, place) => {
             let n = number as u64;
-            put(answer, n, place as u64, 0, 0, 0);
-            n
-        }
-        Verdict::Unrefuted(claim, step, cause) => {
-            let n = meaning::UNREFUTED as u64;
-            put(answer, n, claim as u64, 0, step as u64, cause as u64);
+            put(answer, n, place as u64, 0);
             n
         }
     }
@@ -58,52 +51,24 @@ fn say(verdict: Verdict, answer: &mut [u64]) -> u64
 pub fn mice_check(formula: &[i16], trace: &[i16], counts: &mut [u64], answer: &mut [u64]) -> u64
     ensures { Hosted small formula.now trace.now counts.old answer.old result counts.new answer.new }
 {
-    if answer.len() < meaning::ANSWER_PLACES {
+    if answer.len() < ANSWER_PLACES {
         return SHORT_ANSWER;
     }
-    let ruling = checker::check(formula, trace, counts);
-    let verdict = ruling.verdict;
+    let verdict = checker::check(formula, trace, counts);
     say(verdict, answer)
-}
-
-// Writes the three places of a reading's answer.
-fn put_text(answer: &mut [u64], number: u64, place: u64, written: u64)
-    requires { text_places ≤ length answer.old }
-    ensures { answer.new ≡ over (number ∷ place ∷ written ∷ []) answer.old }
-{
-    answer[0] = number;
-    answer[1] = place;
-    answer[2] = written;
-}
-
-// Writes what a reading answers, and answers its number.
-fn say_text(read: TextAnswer, answer: &mut [u64]) -> u64
-    requires { text_places ≤ length answer.old }
-    ensures value { result ≡ text_number_of read }
-    ensures answer_after { answer.new ≡ over (text_answer_of read) answer.old }
-{
-    match read {
-        TextAnswer::Words(written) => {
-            put_text(answer, 0, 0, written as u64);
-            0
-        }
-        TextAnswer::Faulty(number, place) => {
-            let n = number as u64;
-            put_text(answer, n, place as u64, 0);
-            n
-        }
-    }
 }
 
 // The reading of a DIMACS text into formula words. See include/mice.h.
 pub fn mice_read(text: &[u8], room: &mut [i16], answer: &mut [u64]) -> u64
     ensures { HostedText small text.now room.old answer.old result room.new answer.new }
 {
-    if answer.len() < TEXT_PLACES {
+    if answer.len() < ANSWER_PLACES {
         return SHORT_ANSWER;
     }
-    let read = dimacs::read(text, room);
-    say_text(read, answer)
+    match dimacs::read(text, room) {
+        TextAnswer::Words(written) => say(Verdict::Accepted(written as u64), answer),
+        TextAnswer::Faulty(number, place) => say(Verdict::Refused(number, place), answer),
+    }
 }
 
 // Writes the nine places of a report.

@@ -26,18 +26,16 @@ figures accepted refused smallest smallest_place largest largest_place sum = Giv
 
 pub record Examples : Type 0 where
   -- the first place of each, and a refused answer between them
-  pub first_places : report_of (said (verdict.Accepted 5 ∷ verdict.Unrefuted 3 1 4 ∷ verdict.Accepted 2 ∷ verdict.Accepted 5 ∷ verdict.Accepted 2 ∷ [])) ≡ figures 4 1 2 3 5 1 14
+  pub first_places : report_of (said (verdict.Accepted 5 ∷ verdict.Refused 25 3 ∷ verdict.Accepted 2 ∷ verdict.Accepted 5 ∷ verdict.Accepted 2 ∷ [])) ≡ figures 4 1 2 3 5 1 14
   -- none is accepted
-  pub none_accepted : report_of (said (verdict.Unrefuted 3 1 4 ∷ verdict.Refused 12 0 ∷ [])) ≡ figures 0 2 0 0 0 0 0
+  pub none_accepted : report_of (said (verdict.Refused 25 3 ∷ verdict.Refused 12 0 ∷ [])) ≡ figures 0 2 0 0 0 0 0
   -- an accepted total may be 0
-  pub zero_accepted : report_of (said (verdict.Unrefuted 3 1 4 ∷ verdict.Accepted 0 ∷ [])) ≡ figures 1 1 0 2 0 2 0
+  pub zero_accepted : report_of (said (verdict.Refused 25 3 ∷ verdict.Accepted 0 ∷ [])) ≡ figures 1 1 0 2 0 2 0
   -- a refused answer's total is not read
-  pub refused_total : report_of (set (said (verdict.Unrefuted 3 1 4 ∷ verdict.Accepted 4 ∷ [])) total_place 9) ≡ figures 1 1 4 2 4 2 4
+  pub refused_total : report_of (set (said (verdict.Refused 25 3 ∷ verdict.Accepted 4 ∷ [])) total_place 9) ≡ figures 1 1 4 2 4 2 4
   -- no answers, and a slice that isn't whole answers
   pub no_answers : report_of [] ≡ Refused 33
   pub not_whole : report_of (said (verdict.Accepted 5 ∷ []) ++ 0 ∷ []) ≡ Refused 33
-  -- an answer of three places is not whole either
-  pub three_places : report_of (0 ∷ 0 ∷ 7 ∷ []) ≡ Refused 33
   -- a thousand answers and one more
   pub most_answers_report : report_of (replicate (most_answers * answer_places) 0) ≡ figures 1000 0 0 1 0 1 0
   pub too_many : report_of (replicate ((most_answers + 1) * answer_places) 0) ≡ Refused 33
@@ -55,7 +53,6 @@ examples = record {
   refused_total = refl;
   no_answers = refl;
   not_whole = refl;
-  three_places = refl;
   most_answers_report = refl;
   too_many = refl;
   largest_sum = refl;

@@ -4,41 +4,34 @@ use mathlib.Core.List.{List, [], ◌∷◌, ◌++◌}
 use mathlib.Core.Option.{Option, none, some}
 use Prim.Native.Nat.{ℕ, ◌<◌}
 use native.Mathlib.Omega.{arith}
-use lib.Dec.{leb, ltb}
+use lib.Dec.{ltb}
 use lib.IntN.{ℤ}
 use lib.ListN.{length}
 use Rattle.meaning.specs.declared.Verdict.{Verdict}
-use Rattle.meaning.specs.declared.Verdict.TheVariants.{Accepted, Refused, Unrefuted}
+use Rattle.meaning.specs.declared.Verdict.TheVariants.{Accepted, Refused}
 use Rattle.meaning.specs.Lists.{last, first_failing}
 use Rattle.meaning.specs.Meaning.{Formula, Claim}
-use Rattle.meaning.specs.Rules.{refutation_fault}
 use Rattle.meaning.specs.Limits.{Limits}
 use Rattle.meaning.specs.Read.{Read, ok, bad}
 use Rattle.meaning.specs.Form.{Line, Entry, Trace, formula, trace}
-use Rattle.meaning.specs.Verdict.{Counted, Rule, by_axiom, by_composition, by_join, by_extension, claims, rule_of, claim_of, Failure, by, unrefuted, refuted, Way, Outcome, after, is_whole, total, go_on, table, counted, judge, when_read, check}
+use Rattle.meaning.specs.Verdict.{Counted, Rule, by_axiom, by_composition, by_join, by_extension, rule_of, claim_of, Way, Outcome, after, is_whole, total, go_on, table, counted, judge, when_read, check}
 
 -- a refusal has a number
 abbrev pub Named : Verdict → Type 0
 Named (Accepted total) = Unit
 Named (Refused number place) = 0 < number
-Named (Unrefuted k step cause) = Unit
 
--- so has a failure
-abbrev Counts : Failure → Type 0
-Counts (by number) = 0 < number
-Counts (unrefuted step cause) = Unit
-
--- each test's has one
-abbrev Numbered : List (Failure × Bool) → Type 0
+-- each test has one
+abbrev Numbered : List (ℕ × Bool) → Type 0
 Numbered [] = Unit
-Numbered (t ∷ ts) = Counts t.0 × Numbered ts
+Numbered (t ∷ ts) = (0 < t.0) × Numbered ts
 
--- the first that fails has
-abbrev Fails : Option Failure → Type 0
+-- a failing test's number
+abbrev Fails : Option ℕ → Type 0
 Fails none = Unit
-Fails (some failure) = Counts failure
+Fails (some number) = 0 < number
 
-first_numbered : (ts : List (Failure × Bool)) → Numbered ts → Fails (first_failing ts)
+first_numbered : (ts : List (ℕ × Bool)) → Numbered ts → Fails (first_failing ts)
 first_numbered [] n = tt
 first_numbered (t ∷ ts) n = go t.1 (first_numbered ts n.1)
   where
@@ -46,32 +39,25 @@ first_numbered (t ∷ ts) n = go t.1 (first_numbered ts n.1)
     go true rest = rest
     go false rest = n.0
 
--- a refutation's fault before other tests
-fault_numbered : (o : Option (ℕ × ℕ)) (ts : List (Failure × Bool)) → Numbered ts → Numbered (refuted o ++ ts)
-fault_numbered none ts n = n
-fault_numbered (some fault) ts n = (tt, n)
-
 module _ (way : Way) (L : Limits) (n : ℕ) (φ : Formula) where
   table_numbered : (c : Claim) (r : Option Rule) → Numbered (table way L n φ c r)
   table_numbered c none = search arith
   table_numbered c (some by_axiom) = search arith
-  table_numbered c (some (by_composition ρ ps)) = (omega arith, (omega arith, (omega arith, fault_numbered (refutation_fault φ c (claims ps) ρ) _ (search arith))))
+  table_numbered c (some (by_composition ρ ps)) = search arith
   table_numbered c (some (by_join p q)) = search arith
   table_numbered c (some (by_extension p)) = search arith
 
-  total_named : (k : ℕ) (o : Option Counted) → Named (total way L n φ k o)
+  total_named : (k : ℕ) (o : Option Counted) → Named (total (length φ) k o)
   total_named k none = omega arith
-  total_named k (some e) = let t = way.of_whole n φ e.count in go t (is_whole φ e.claim) (leb t L.count)
+  total_named k (some e) = go (is_whole (length φ) e.claim)
     where
-      go : (t : ℕ) (b c : Bool) → Named (cond b (cond c (Accepted t) (Refused 28 k)) (Refused 29 k))
-      go t true true = tt
-      go t true false = omega arith
-      go t false c = omega arith
+      go : (b : Bool) → Named (cond b (Accepted e.count) (Refused 29 k))
+      go true = tt
+      go false = omega arith
 
-  go_on_named : (before : List Counted) (o : Option Failure) (rest : Outcome) → Fails o → Named rest.says → Named (go_on before o rest).says
+  go_on_named : (before : List Counted) (o : Option ℕ) (rest : Outcome) → Fails o → Named rest.says → Named (go_on before o rest).says
   go_on_named before none rest f h = h
-  go_on_named before (some (by number)) rest f h = f
-  go_on_named before (some (unrefuted step cause)) rest f h = tt
+  go_on_named before (some number) rest f h = f
 
   judge_named : (t : Trace) (before : List Counted) (ls : List (Entry Line)) → Named (judge way L n φ t before ls).says
   unfolding judge

@@ -9,7 +9,7 @@ use lib.Dec.{leb, eqb}
 use lib.ListN.{length, length-map}
 use borrow.Author.Tests.{ne_eqb}
 use Rattle.meaning.specs.declared.Verdict.{Verdict}
-use Rattle.meaning.specs.declared.Verdict.TheVariants.{Accepted, Refused, Unrefuted}
+use Rattle.meaning.specs.declared.Verdict.TheVariants.{Accepted, Refused}
 use Rattle.meaning.specs.Lists.{sum}
 use Rattle.meaning.specs.Limits.{small}
 use Rattle.meaning.specs.Read.{Read, ok, bad}
@@ -52,13 +52,11 @@ answer_first : (v : Verdict) {m : ℕ} → ((k : ℕ) → v ≡ Accepted k → k
     → answers_from k (suc n) (answer_of v ++ ws) ≡ answer k (number_of v) (cond (accepts v) m 0) ∷ answers_from (suc k) n ws
 answer_first (Accepted total) h k n ws = ap (λ t. answer k 0 t ∷ answers_from (suc k) n ws) (h total refl)
 answer_first (Refused number place) h k n ws = refl
-answer_first (Unrefuted claim step cause) h k n ws = refl
 
 -- it has that many places
 answer_length : (v : Verdict) (ws : List ℕ) → length (answer_of v ++ ws) ≡ answer_places + length ws
 answer_length (Accepted total) ws = omega arith
 answer_length (Refused number place) ws = omega arith
-answer_length (Unrefuted k step cause) ws = omega arith
 
 -- ---- the release
 
@@ -83,7 +81,6 @@ exact_step : (v : Verdict) (k : ℕ) (p : Pack) (xs : List Answer) (qs : List Pa
     → map (λ a. a.total) (accepted (answer k (number_of v) (cond (accepts v) (settings_of p) 0) ∷ xs)) ≡ map settings_of (cond (accepts v) (p ∷ qs) qs)
 exact_step (Accepted total) k p xs qs n e = ap (λ l. settings_of p ∷ l) e
 exact_step (Refused number place) k p xs qs n e = rw (ne_eqb number 0 (λ z. omega arith)) e
-exact_step (Unrefuted claim step cause) k p xs qs n e = e
 
 exact_totals : (k : ℕ) (ps : List Pack) → map (λ a. a.total) (accepted (exact_answers k ps)) ≡ map settings_of (accepted_packs ps)
 exact_totals k [] = refl

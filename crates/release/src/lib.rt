@@ -5,14 +5,16 @@ ghost use Rattle.std.specs.Prelude.{◌≡◌, false, cond, List, ◌++◌, ◌�
 ghost use Rattle.meaning.specs.Promise.{answer_places};
 ghost use Rattle.release.specs.Report.{Answer, answer, answers_from, is_accepted, figures_of, most_answers, most_sum, well_formed, report_over, report_of};
 
-// The places of an answer, from 0, that are read.
+// How many places an answer has, and which of them, from 0, are read.
+const ANSWER_PLACES: usize = 3;
+
 const NUMBER_PLACE: usize = 0;
 
 const TOTAL_PLACE: usize = 2;
 // A report is over at most so many answers.
 const MOST_ANSWERS: usize = 1000;
 // The places of so many.
-pub const MOST_PLACES: usize = meaning::ANSWER_PLACES * MOST_ANSWERS;
+pub const MOST_PLACES: usize = ANSWER_PLACES * MOST_ANSWERS;
 // The largest sum: 2^64 - 1.
 const MOST_SUM: u64 = 18446744073709551615;
 // Refusal: no answers, too many, or a slice that isn't whole answers.
@@ -135,8 +137,8 @@ fn add(before: Figures, place: u64, number: u64, total: u64) -> Totals
 fn well_formed(answers: &[u64]) -> bool
     ensures { result ≡ well_formed answers.now }
 {
-    let count = answers.len() / meaning::ANSWER_PLACES;
-    (answers.len() % meaning::ANSWER_PLACES == 0) & (1 <= count) & (count <= MOST_ANSWERS)
+    let count = answers.len() / ANSWER_PLACES;
+    (answers.len() % ANSWER_PLACES == 0) & (1 <= count) & (count <= MOST_ANSWERS)
 }
 
 // The report over so many answers.
@@ -148,7 +150,7 @@ fn report_over(answers: &[u64], count: usize) -> Totals
     let mut figures = nothing();
     let mut i = 0;
     while i < count {
-        let start = meaning::ANSWER_PLACES * i;
+        let start = ANSWER_PLACES * i;
         let number = answers[start + NUMBER_PLACE];
         let total = answers[start + TOTAL_PLACE];
         i += 1;
@@ -165,7 +167,7 @@ pub fn report(answers: &[u64]) -> Totals
     ensures { result ≡ report_of answers.now }
 {
     if well_formed(answers) {
-        report_over(answers, answers.len() / meaning::ANSWER_PLACES)
+        report_over(answers, answers.len() / ANSWER_PLACES)
     } else {
         Totals::Refused(ANSWERS_FORM)
     }

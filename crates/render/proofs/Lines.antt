@@ -7,11 +7,10 @@ use native.Mathlib.Numerals.{add-one, one-add}
 use native.Mathlib.Omega.{arith}
 use lib.ListN.{length, get_or, take, drop, length-append}
 use lib.Seq.{drop-cons, take-suc, length-take-le}
-use Rattle.meaning.specs.Verdict.{unrefuted_number}
 use Rattle.meaning.specs.Text.{bytes}
-use Rattle.meaning.specs.Lines.{decimal, refusal, count_lines, last_line}
+use Rattle.meaning.specs.Lines.{decimal, count_lines, last_line}
 use Rattle.meaning.specs.declared.Verdict.{Verdict}
-use Rattle.meaning.specs.declared.Verdict.TheVariants.{Accepted, Refused, Unrefuted}
+use Rattle.meaning.specs.declared.Verdict.TheVariants.{Accepted, Refused}
 use Rattle.render.specs.Shown.{shown, named, pair_line, claim_line, claim_lines, verdict_line}
 
 -- the first line of what is left
@@ -46,18 +45,10 @@ claims_are : (k : ℕ) (counts : List ℕ) → count_lines k counts ≡ claim_li
 claims_are k [] = refl
 claims_are k (c ∷ cs) = ap₂ ◌++◌ (pair_is (bytes "claim ") k (bytes " count ") c) (claims_are (suc k) cs)
 
--- a line behind other bytes
-behind : (xs first second : List ℕ) (number value : ℕ) → xs ++ first ++ decimal number ++ second ++ decimal value ++ bytes "\n" ≡ xs ++ pair_line first number second value
-behind [] first second number value = pair_is first number second value
-behind (x ∷ xs) first second number value = ap (λ l. x ∷ l) (behind xs first second number value)
-
 verdict_is : (v : Verdict) → last_line v ≡ verdict_line v
 unfolding shown named
 verdict_is (Accepted total) = refl
 verdict_is (Refused number place) = pair_is (bytes "refused ") number (bytes " at ") place
-verdict_is (Unrefuted k step cause) =
-    behind (refusal unrefuted_number k) (bytes " step ") (bytes " cause ") step cause
-    ∙ ap (λ xs. xs ++ pair_line (bytes " step ") step (bytes " cause ") cause) (append_assoc (bytes "refused " ++ decimal unrefuted_number) (bytes " at ") (decimal k))
 
 pub lines_are : (counts : List ℕ) (v : Verdict) → count_lines 1 counts ++ last_line v ≡ claim_lines 1 counts ++ verdict_line v
 lines_are counts v = ap₂ ◌++◌ (claims_are 1 counts) (verdict_is v)

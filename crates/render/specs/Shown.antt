@@ -1,10 +1,9 @@
 -- The printed lines over a number's digits that stay shut; a law of proofs/ says that they are those of `meaning`.
 use Rattle.std.specs.Prelude.{List, [], ◌∷◌, ◌++◌, ℕ, suc}
-use Rattle.meaning.specs.Verdict.{unrefuted_number}
 use Rattle.meaning.specs.Text.{bytes}
 use Rattle.meaning.specs.Lines.{decimal}
 use Rattle.meaning.specs.declared.Verdict.{Verdict}
-use Rattle.meaning.specs.declared.Verdict.TheVariants.{Accepted, Refused, Unrefuted}
+use Rattle.meaning.specs.declared.Verdict.TheVariants.{Accepted, Refused}
 
 -- a number as it is printed
 unfoldable pub shown : ℕ → List ℕ
@@ -31,4 +30,3 @@ claim_lines k (c ∷ cs) = claim_line k c ++ claim_lines (suc k) cs
 abbrev pub verdict_line : Verdict → List ℕ
 verdict_line (Accepted total) = named (bytes "accepted ") total ++ bytes "\n"
 verdict_line (Refused number place) = pair_line (bytes "refused ") number (bytes " at ") place
-verdict_line (Unrefuted k step cause) = named (bytes "refused ") unrefuted_number ++ named (bytes " at ") k ++ pair_line (bytes " step ") step (bytes " cause ") cause

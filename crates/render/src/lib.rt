@@ -17,8 +17,6 @@ const CLAIM_BYTES: usize = 14;
 const ACCEPTED_BYTES: usize = 10;
 // The bytes of `refused  at ` and the line's end.
 const REFUSED_BYTES: usize = 13;
-// The bytes of `refused  at  step  cause ` and the line's end.
-const UNREFUTED_BYTES: usize = 26;
 
 // How many digits a number has.
 fn width(number: u64) -> usize
@@ -110,18 +108,13 @@ fn claim_width(number: usize, count: u64) -> usize
 // How many bytes the line of a verdict has.
 fn verdict_width(verdict: Verdict) -> usize
     ensures value { result ≡ length (verdict_line verdict) }
-    ensures upper_bound { result ≤ 106 }
+    ensures upper_bound { result ≤ 53 }
 {
     match verdict {
         Verdict::Accepted(total) => ACCEPTED_BYTES + width(total),
         Verdict::Refused(number, place) => REFUSED_BYTES
             + width(number as u64)
             + width(place as u64),
-        Verdict::Unrefuted(claim, step, cause) => UNREFUTED_BYTES
-            + width(meaning::UNREFUTED as u64)
-            + width(claim as u64)
-            + width(step as u64)
-            + width(cause as u64),
     }
 }
 
@@ -132,23 +125,6 @@ fn put_accepted(buffer: &mut [u8], end: usize, total: u64) -> usize
 {
     let line_end = put_text(buffer, end, b"\n");
     put_named(buffer, line_end, b"accepted ", total)
-}
-
-// The line of a refutation that does not hold, and where it begins.
-fn put_unrefuted(buffer: &mut [u8], end: usize, claim: usize, step: usize, cause: usize) -> usize
-    requires { Room end (verdict_line (Verdict.Unrefuted claim step cause)) buffer.old }
-    ensures { Placed end (verdict_line (Verdict.Unrefuted claim step cause)) buffer.old result buffer.new }
-{
-    let rest = put_pair(
-        buffer,
-        end,
-        b" step ",
-        step as u64,
-        b" cause ",
-        cause as u64,
-    );
-    let middle = put_named(buffer, rest, b" at ", claim as u64);
-    put_named(buffer, middle, b"refused ", meaning::UNREFUTED as u64)
 }
 
 // The line of a verdict, and where it begins.
@@ -166,7 +142,6 @@ fn put_verdict(buffer: &mut [u8], end: usize, verdict: Verdict) -> usize
             b" at ",
             place as u64,
         ),
-        Verdict::Unrefuted(claim, step, cause) => put_unrefuted(buffer, end, claim, step, cause),
     }
 }
 

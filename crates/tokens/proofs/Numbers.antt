@@ -6,7 +6,6 @@ use mathlib.Core.Option.{Option, none, some}
 use Prim.Native.Nat.{ℕ, ◌+◌, ◌-◌, ◌*◌, ◌^◌, ◌<◌, ◌≤◌}
 use Prim.Native.Char.{Char, code}
 use native.Mathlib.Omega.{arith}
-use native.Mathlib.Nat.{zero-add}
 use borrow.Author.Tests.{ltb-true, leb-true, ne_eqb, eqb-true, lt-ltb, le-leb, lt-leb, eq-eqb}
 use lib.Dec.{eqb, ltb, leb}
 use lib.IntN.{ℤ, pos, neg_ℤ}
@@ -18,15 +17,15 @@ use Rattle.tokens.specs.Scan.{parts, stands, parted, word_at}
 use Rattle.tokens.specs.declared.Numeral.TheVariants as numerals
 use Rattle.tokens.specs.declared.Signed.TheVariants as signs
 use Rattle.tokens.specs.Numbers.{is_digit, Running, Ran, literal_of, NumeralRead, SignedRead}
-use Rattle.tokens.proofs.Places.{and_true_l, and_true_r, not_parted, stands_parted, word_stops, word_goes, parts_parted}
+use Rattle.tokens.proofs.Places.{and_true_l, and_true_r, not_parted, stands_parted, word_stops, word_goes}
 
 -- ---- digits
 
-pub digit_low : (b : ℕ) → is_digit b ≡ true → 48 ≤ b
+digit_low : (b : ℕ) → is_digit b ≡ true → 48 ≤ b
 unfolding is_digit
 digit_low b e = leb-true 48 b (and_true_l (leb 48 b) (leb b 57) e)
 
-pub digit_high : (b : ℕ) → is_digit b ≡ true → b ≤ 57
+digit_high : (b : ℕ) → is_digit b ≡ true → b ≤ 57
 unfolding is_digit
 digit_high b e = leb-true b 57 (and_true_r (leb 48 b) (leb b 57) e)
 
@@ -66,6 +65,17 @@ module _ (t : List ℕ) (start : ℕ) where
         valued = r.valued ∙ rw w;
         small = rw before (value_grows (at - start) v (get_or t at 0 - 48) r.small (omega (arith, digit_high (get_or t at 0) e)));
       }
+
+-- what `digit` answers
+pub digit_told : (b d : ℕ) → d ≡ cond (is_digit b) (b - 48) 10 → d ≤ 9 → (is_digit b ≡ true) × (d ≡ b - 48)
+digit_told b d e h = go (is_digit b) e
+  where
+    go : (x : Bool) → d ≡ cond x (b - 48) 10 → (x ≡ true) × (d ≡ b - 48)
+    go true i = (refl, i)
+    go false i = absurd (omega arith)
+
+pub digit_not : (b d : ℕ) → d ≡ cond (is_digit b) (b - 48) 10 → 9 < d → is_digit b ≡ true → ⊥
+digit_not b d e h i = let f : d ≡ b - 48 = e ∙ rw i in omega (arith, digit_high b i)
 
 -- ---- a word's first byte
 
@@ -109,9 +119,9 @@ too_short : (ws : List ℕ) → length ws ≡ 0 → numeral ws ≡ none
 too_short [] h = refl
 too_short (b ∷ ws) h = absurd (omega arith)
 
-or_true : (a b : Bool) → b ≡ true → (a || b) ≡ true
-or_true true b e = refl
-or_true false b e = e
+or-true : (a b : Bool) → b ≡ true → (a || b) ≡ true
+or-true true b e = refl
+or-true false b e = e
 
 positive : (v : ℕ) → (v ≡ 0 → ⊥) → 0 < v
 positive v n = omega (arith, n)
@@ -150,7 +160,7 @@ module _ {t : List ℕ} {start v end : ℕ} (r : Ran t start v end) where
     )
 
     pub one_digit : end ≡ start + 1 → NumeralRead t start (numerals.Is v end)
-    one_digit i = read_is (λ n. omega arith) (or_true (not (begins "0" (word_at t start))) (eqb (end - start) 1) (eq-eqb (end - start) 1 (omega arith)))
+    one_digit i = read_is (λ n. omega arith) (or-true (not (begins "0" (word_at t start))) (eqb (end - start) 1) (eq-eqb (end - start) 1 (omega arith)))
 
     pub more_digits : (end ≡ start → ⊥) → stands t start 48 ≡ false → NumeralRead t start (numerals.Is v end)
     more_digits n z = read_is n (rw (begins_word "0" (big_parts 48 (omega arith)) t start, z))
@@ -164,41 +174,6 @@ module _ {t : List ℕ} {start v end : ℕ} (r : Ran t start v end) where
       go : (x : Bool) → parted t end ≡ x → numeral (word_at t start) ≡ none
       go true e = too_short (word_at t start) (omega (arith, counted e))
       go false e = numeral_not e
-
--- ---- a number of few digits
-
-module _ (t : List ℕ) (start : ℕ) (h : start + 4 ≤ length t) where
-  -- the byte at a place, and its digit
-  abbrev byte : ℕ → ℕ
-  byte k = get_or t (start + k) 0
-
-  -- where the word ends no further digit stands
-  ran : {v end : ℕ} → Running t start v end → parts (get_or t end 0) ≡ true → Ran t start v end
-  ran {end} r p = record { running = r; stopped = λ _ i. absurd (true≢false (sym p ∙ digit_parts (get_or t end 0) i)) }
-
-  one : is_digit (get_or t start 0) ≡ true → Running t start (get_or t start 0 - 48) (start + 1)
-  one d = rw zero-add at (running_more t start (running_none t start (omega arith)) (omega arith) d (omega arith))
-
-  two : is_digit (get_or t start 0) ≡ true → is_digit (byte 1) ≡ true → Running t start (10 * (get_or t start 0 - 48) + (byte 1 - 48)) (start + 2)
-  two d e = let i : start + 1 + 1 ≡ start + 2 = omega arith in rw i at (running_more t start (one d) (omega arith) e (omega arith))
-
-  three : is_digit (get_or t start 0) ≡ true → is_digit (byte 1) ≡ true → is_digit (byte 2) ≡ true → Running t start (10 * (10 * (get_or t start 0 - 48) + (byte 1 - 48)) + (byte 2 - 48)) (start + 3)
-  three d e f = let i : start + 2 + 1 ≡ start + 3 = omega arith in rw i at (running_more t start (two d e) (omega arith) f (omega arith))
-
-  not_zero : (get_or t start 0 ≡ 48 → ⊥) → stands t start 48 ≡ false
-  unfolding stands
-  not_zero n = rw (lt-ltb start (length t) (omega arith)) (ne_eqb (get_or t start 0) 48 n)
-
-  module _ (d : is_digit (get_or t start 0) ≡ true) where
-    pub short_one : {v : ℕ} → v ≡ get_or t start 0 - 48 → parts (byte 1) ≡ true → NumeralRead t start (numerals.Is v (start + 1))
-    short_one v p = rw v (one_digit (ran (one d) p) (parts_parted t (start + 1) p) refl)
-
-    module _ (n : get_or t start 0 ≡ 48 → ⊥) (e : is_digit (byte 1) ≡ true) where
-      pub short_two : {v w : ℕ} → v ≡ get_or t start 0 - 48 → w ≡ byte 1 - 48 → parts (byte 2) ≡ true → NumeralRead t start (numerals.Is (10 * v + w) (start + 2))
-      short_two v w p = rw (v, w) (more_digits (ran (two d e) p) (parts_parted t (start + 2) p) (λ i. omega (arith, i)) (not_zero n))
-
-      pub short_three : is_digit (byte 2) ≡ true → {v w x : ℕ} → v ≡ get_or t start 0 - 48 → w ≡ byte 1 - 48 → x ≡ byte 2 - 48 → parts (byte 3) ≡ true → NumeralRead t start (numerals.Is (10 * (10 * v + w) + x) (start + 3))
-      short_three f v w x p = rw (v, w, x) (more_digits (ran (three d e f) p) (parts_parted t (start + 3) p) (λ i. omega (arith, i)) (not_zero n))
 
 -- ---- the sign
 

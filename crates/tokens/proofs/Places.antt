@@ -2,7 +2,7 @@
 use mathlib.Core.Path.{◌≡◌, refl, sym, ap, ◌∙◌}
 use mathlib.Core.Bool.{Bool, true, false, not, ◌&&◌, ◌||◌, cond, true≢false}
 use mathlib.Core.List.{List, [], ◌∷◌}
-use Prim.Native.Nat.{ℕ, zero, suc, ◌+◌, ◌<◌, ◌≤◌}
+use Prim.Native.Nat.{ℕ, suc, ◌+◌, ◌<◌, ◌≤◌}
 use native.Mathlib.Omega.{arith}
 use native.Mathlib.Nat.{add-zero, add-suc, suc-add}
 use native.Mathlib.Numerals.{add-one}
@@ -11,7 +11,7 @@ use lib.Dec.{eqb, ltb}
 use lib.ListN.{length, get_or, drop, length-drop, drop_of_length-le}
 use lib.Seq.{drop-cons, drop-drop}
 use Rattle.meaning.specs.Text.{is, blank, longer}
-use Rattle.tokens.specs.Scan.{parts, word, line, fresh, comment, gap, inside, piece, scan, stands, parted, line_end, word_at, tokens_from, lines_from, Past, Next, Separate, Onward}
+use Rattle.tokens.specs.Scan.{parts, word, line, fresh, comment, gap, inside, piece, scan, stands, parted, line_end, word_at, tokens_from, lines_from, Past}
 use Rattle.tokens.proofs.Lines.{fresh_gap}
 
 -- ---- at one byte of a list
@@ -22,14 +22,6 @@ blank_parts b e = go (is "\n" b) refl
     go : (x : Bool) → is "\n" b ≡ x → x ≡ false
     go true i = sym e ∙ rw (eqb-true b 10 i)
     go false i = refl
-
-no_end_blank : (b : ℕ) → is "\n" b ≡ false → parts b ≡ true → blank b ≡ true
-unfolding parts
-no_end_blank b i e = rw i at e
-
-c_parts : parts 99 ≡ false
-unfolding parts
-c_parts = refl
 
 pub or_false_l : (x y : Bool) → (x || y) ≡ false → x ≡ false
 or_false_l false y e = refl
@@ -199,78 +191,3 @@ module _ (t : List ℕ) (at : ℕ) where
 
   pub past_none : at ≤ length t → stands t at 99 ≡ false → Past t at at
   past_none h e = record { onward = omega arith; within = h; same = line_tokens t at e }
-
--- ---- a run of separators
-
-module _ (t : List ℕ) (at : ℕ) where
-  -- a separator before another one or before the text's end
-  pub gap_parted : at < length t → parts (get_or t at 0) ≡ true → parted t (at + 1) ≡ true → tokens_from t at ≡ tokens_from t (at + 1)
-  gap_parted h e p = go (is "\n" (get_or t at 0)) refl
-    where
-      go : (x : Bool) → is "\n" (get_or t at 0) ≡ x → tokens_from t at ≡ tokens_from t (at + 1)
-      go true i = gap_line_end t at h (eqb-true (get_or t at 0) 10 i) ∙ line_tokens t (at + 1) (stands_parted t (at + 1) 99 c_parts p)
-      go false i = gap_blank t at h (no_end_blank (get_or t at 0) i e)
-
-  pub parts_parted : parts (get_or t at 0) ≡ true → parted t at ≡ true
-  unfolding parted
-  parts_parted e = go (ltb at (length t))
-    where
-      go : (x : Bool) → (not x || parts (get_or t at 0)) ≡ true
-      go true = e
-      go false = refl
-
-module _ (t : List ℕ) (at : ℕ) where
-  pub separate_none : Separate t at 0
-  separate_none = record { each = λ k i. absurd (omega (arith, i)) }
-
-  -- one byte more of a block, where both sides of an `and` are tested
-  pub separate_more : {n : ℕ} {good r : Bool} → (good ≡ true → Separate t at n) → r ≡ parts (get_or t (at + n) 0) → (good && r) ≡ true → Separate t at (n + 1)
-  separate_more {n} {good} {r} s p e = record { each = λ k i. go k i (ltb k n) refl }
-    where
-      go : (k : ℕ) → k < n + 1 → (x : Bool) → ltb k n ≡ x → parts (get_or t (at + k) 0) ≡ true
-      go k i true h = (s (and_true_l good r e)).each k (ltb-true k n h)
-      go k i false h = let j : k ≡ n = omega (arith, i, ltb-false k n h) in rw j (sym p ∙ and_true_r good r e)
-
--- of a block's separators all but the last are passed over
-pub gap_block : (t : List ℕ) (at n : ℕ) → at + n < length t → Separate t at (n + 1) → tokens_from t at ≡ tokens_from t (at + n)
-gap_block t at zero h s = ap (tokens_from t) (sym (add-zero at))
-gap_block t at (suc n) h s =
-    let e : at + (n + 1) ≡ at + n + 1 = omega arith in
-    gap_block t at n (omega arith) (record { each = λ k i. s.each k (omega (arith, i)) })
-    ∙ gap_parted t (at + n) (omega arith) (s.each n (omega arith)) (parts_parted t (at + n + 1) (ap (λ i. parts (get_or t i 0)) (sym e) ∙ s.each (n + 1) (omega arith)))
-    ∙ ap (tokens_from t) (omega arith)
-
-pub onward_none : {t : List ℕ} {at : ℕ} → at ≤ length t → Onward t at at
-onward_none h = record { onward = omega arith; within = h; same = refl }
-
-module _ {t : List ℕ} {start at : ℕ} (o : Onward t start at) where
-  pub onward_block : at + 16 ≤ length t → Separate t at 16 → Onward t start (at + 15)
-  onward_block h s = record { onward = omega (arith, o.onward); within = omega arith; same = o.same ∙ gap_block t at 15 (omega arith) s }
-
-  pub next_here : parts (get_or t at 0) ≡ false → Next t start at
-  next_here e = record { onward = o.onward; within = o.within; same = o.same; reached = λ _. e }
-
-  pub next_none : length t ≤ at → Next t start at
-  next_none h = record { onward = o.onward; within = o.within; same = o.same; reached = λ i. absurd (omega (arith, i)) }
-
-  module _ (h : at < length t) where
-    pub onward_comment : get_or t at 0 ≡ 10 → {r : ℕ} → Past t (at + 1) r → Onward t start r
-    onward_comment e p = record { onward = omega (arith, o.onward, p.onward); within = p.within; same = o.same ∙ gap_line_end t at h e ∙ p.same }
-
-    module _ (e : parts (get_or t at 0) ≡ true) where
-      pub onward_one : parted t (at + 1) ≡ true → Onward t start (at + 1)
-      onward_one p = record { onward = omega (arith, o.onward); within = omega arith; same = o.same ∙ gap_parted t at h e p }
-
-      pub onward_run : parted t (at + 1) ≡ true → {r : ℕ} → Onward t (at + 1) r → Onward t start r
-      onward_run p q = record { onward = omega (arith, o.onward, q.onward); within = q.within; same = o.same ∙ gap_parted t at h e p ∙ q.same }
-
-      -- a blank before a token
-      pub next_blank : (get_or t at 0 ≡ 10 → ⊥) → parted t (at + 1) ≡ false → Next t start (at + 1)
-      next_blank n p =
-          let i = not_parted t (at + 1) p in
-          record {
-            onward = omega (arith, o.onward);
-            within = omega (arith, i.0);
-            same = o.same ∙ gap_blank t at h (no_end_blank (get_or t at 0) (ne_eqb (get_or t at 0) 10 n) e);
-            reached = λ _. i.1;
-          }

@@ -36,11 +36,6 @@ abbrev pub NumeralRead : List ℕ → ℕ → Numeral → Type 0
 NumeralRead text at (numerals.Is v end) = (numeral (word_at text at) ≡ some v) × (end ≡ at + length (word_at text at)) × (parted text end ≡ true)
 NumeralRead text at numerals.Not = numeral (word_at text at) ≡ none
 
--- where one answers at all
-abbrev pub short_read : List ℕ → ℕ → Numeral → Type 0
-short_read text at (numerals.Is v end) = NumeralRead text at (numerals.Is v end)
-short_read text at numerals.Not = Unit {0}
-
 abbrev pub SignedRead : List ℕ → ℕ → Signed → Type 0
 SignedRead text at (signs.Is v minus end) = (signed (word_at text at) ≡ some (literal_of minus v)) × (end ≡ at + length (word_at text at)) × (parted text end ≡ true)
 SignedRead text at signs.Not = signed (word_at text at) ≡ none

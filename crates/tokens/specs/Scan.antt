@@ -1,5 +1,5 @@
 -- The tokens of a text, found from left to right: what the code goes by.
-use Rattle.std.specs.Prelude.{◌≡◌, Bool, true, false, not, ◌&&◌, ◌||◌, cond, List, [], ◌∷◌, ℕ, suc, ◌+◌, ◌<◌, ◌≤◌, eqb, ltb, length, get_or, drop}
+use Rattle.std.specs.Prelude.{◌≡◌, Bool, false, not, ◌&&◌, ◌||◌, cond, List, [], ◌∷◌, ℕ, suc, ◌+◌, ◌<◌, ◌≤◌, eqb, ltb, length, get_or, drop}
 use Rattle.meaning.specs.Text.{is, blank, Piece, longer}
 
 -- blanks and line ends part tokens
@@ -69,16 +69,6 @@ tokens_from text at = scan gap at (drop at text)
 
 unfoldable pub lines_from : List ℕ → ℕ → List Piece
 lines_from text at = scan fresh at (drop at text)
-
--- each of so many bytes from there on parts tokens
-pub record Separate (text : List ℕ) (at many : ℕ) : Type 0 where
-  pub each : (k : ℕ) → k < many → parts (get_or text (at + k) 0) ≡ true
-
--- no token stands between
-pub record Onward (text : List ℕ) (at next : ℕ) : Type 0 where
-  pub onward : at ≤ next
-  pub within : next ≤ length text
-  pub same : tokens_from text at ≡ tokens_from text next
 
 -- the next token begins there, or it is the text's end
 pub record Next (text : List ℕ) (at next : ℕ) : Type 0 where

@@ -1,12 +1,12 @@
 // DIMACS text to formula words.
 #![tactic(auto)]
 
-ghost use Rattle.std.specs.Prelude.{◌≡◌, cond, true, ◌+◌, ◌-◌, ◌<◌, ◌≤◌, length, drop};
-ghost use Rattle.tokens.specs.Scan.{parts, Separate, Onward, stands, parted, line_end, word_at, tokens_from, piece, Next, Past};
-ghost use Rattle.tokens.specs.Numbers.{is_digit, Ran, NumeralRead, short_read, SignedRead};
+ghost use Rattle.std.specs.Prelude.{◌≡◌, cond, ◌+◌, ◌-◌, ◌<◌, ◌≤◌, length, drop};
+ghost use Rattle.tokens.specs.Scan.{stands, parted, line_end, word_at, tokens_from, piece, Next, Past};
+ghost use Rattle.tokens.specs.Numbers.{is_digit, Ran, NumeralRead, SignedRead};
 ghost use Rattle.tokens.specs.Header.{OneLine, FirstLine, solid_line, sizes_of, head_read};
 ghost use Rattle.meaning.specs.Limits.{small};
-ghost use Rattle.meaning.specs.Text.{spells, header};
+ghost use Rattle.meaning.specs.Text.{blank, spells, header};
 
 const VARIABLES: usize = 512;
 
@@ -14,18 +14,18 @@ const CLAUSES: usize = 2048;
 
 const DIGITS: usize = 5;
 
-// So many bytes are dealt with at once.
-const BLOCK: usize = 16;
-// A block's last byte stays: it may be a line end before a comment.
-const STRIDE: usize = BLOCK - 1;
-
 // ---- bytes
 
-// A blank or a line end. Both sides of each | are tested, which takes no jump.
-fn separates(b: u8) -> bool
-    ensures { result ≡ parts b }
+fn is_blank(b: u8) -> bool
+    ensures { result ≡ blank b }
 {
-    (b == b'\n') | ((b == b' ') | (b == b'\t') | (b == b'\r'))
+    if b == b' ' {
+        return true;
+    }
+    if b == b'\t' {
+        return true;
+    }
+    b == b'\r'
 }
 
 // That byte stands there.
@@ -44,7 +44,8 @@ fn parted_at(text: &[u8], at: usize) -> bool
     ensures { result ≡ parted text.now at }
 {
     if at < text.len() {
-        separates(text[at])
+        let b = text[at];
+        if b == b'\n' { true } else { is_blank(b) }
     } else {
         true
     }
@@ -76,58 +77,7 @@ fn past_comment(text: &[u8], at: usize) -> usize
     at
 }
 
-// Each byte of the block separates.
-fn block_separates(text: &[u8], at: usize) -> bool
-    requires { at + 16 ≤ length text.now }
-    ensures { result ≡ true → Separate text.now at 16 }
-{
-    let mut good = true;
-    let mut k: usize = 0;
-    while k < BLOCK {
-        let separate = separates(text[at + k]);
-        good = good & separate;
-        k = k + 1;
-    }
-    good
-}
-
-// Passes over the blocks of a run of separators.
-fn past_blocks(text: &[u8], start: usize) -> usize
-    requires { start ≤ length text.now }
-    ensures { Onward text.now start result }
-{
-    let mut at = start;
-    while at + BLOCK <= text.len() {
-        if block_separates(text, at) {
-            at = at + STRIDE;
-        } else {
-            return at;
-        }
-    }
-    at
-}
-
-// Passes over a run of separators up to its last one.
-fn past_run(text: &[u8], start: usize) -> usize
-    requires { start ≤ length text.now }
-    ensures { Onward text.now start result }
-{
-    let mut at = past_blocks(text, start);
-    while at < text.len() {
-        if separates(text[at]) {
-            if parted_at(text, at + 1) {
-                at = at + 1;
-            } else {
-                return at;
-            }
-        } else {
-            return at;
-        }
-    }
-    at
-}
-
-// Where the next token begins, or the text's end. Mostly a single byte separates two tokens.
+// Where the next token begins, or the text's end.
 pub fn next(text: &[u8], start: usize) -> usize
     requires { start ≤ length text.now }
     ensures { Next text.now start result }
@@ -135,18 +85,14 @@ pub fn next(text: &[u8], start: usize) -> usize
     let mut at = start;
     while at < text.len() {
         let b = text[at];
-        if separates(b) {
-            if parted_at(text, at + 1) {
-                at = past_run(text, at + 1);
-            } else {
-                if b == b'\n' {
-                    at = past_comment(text, at + 1);
-                } else {
-                    return at + 1;
-                }
-            }
+        if b == b'\n' {
+            at = past_comment(text, at + 1);
         } else {
-            return at;
+            if is_blank(b) {
+                at = at + 1;
+            } else {
+                return at;
+            }
         }
     }
     at
@@ -175,18 +121,16 @@ pub enum Signed {
     Not,
 }
 
-// The byte is a decimal digit.
-fn is_digit(b: u8) -> bool
-    ensures { result ≡ is_digit b }
-{
-    (b'0' <= b) & (b <= b'9')
-}
-
-// The number that a digit stands for.
+// The byte less 48, or 10 for no digit.
 fn digit(b: u8) -> usize
-    requires { is_digit b ≡ true }
-    ensures { (result ≡ b - 48) × (result ≤ 9) }
+    ensures { result ≡ cond (is_digit b) (b - 48) 10 }
 {
+    if b < b'0' {
+        return 10;
+    }
+    if b'9' < b {
+        return 10;
+    }
     (b - 48) as usize
 }
 
@@ -198,8 +142,8 @@ fn digits_from(text: &[u8], start: usize) -> Run
     let mut value: usize = 0;
     let mut at = start;
     while at < text.len() {
-        let b = text[at];
-        if !is_digit(b) {
+        let d = digit(text[at]);
+        if 9 < d {
             return Run {
                 value: value,
                 end: at,
@@ -211,7 +155,7 @@ fn digits_from(text: &[u8], start: usize) -> Run
                 end: at,
             };
         }
-        value = 10 * value + digit(b);
+        value = 10 * value + d;
         at = at + 1;
     }
     Run {
@@ -241,51 +185,6 @@ fn numeral_at(text: &[u8], start: usize) -> Numeral
     Numeral::Not
 }
 
-// A number of one, two or three digits, where four bytes stand there: most numbers. Of others it says nothing.
-fn short_numeral(text: &[u8], start: usize) -> Numeral
-    requires { start + 4 ≤ length text.now }
-    ensures { short_read text.now start result }
-{
-    let a = text[start];
-    if is_digit(a) {
-        let b = text[start + 1];
-        if separates(b) {
-            return Numeral::Is(digit(a), start + 1);
-        }
-        if a == b'0' {
-            return Numeral::Not;
-        }
-        if is_digit(b) {
-            let two = 10 * digit(a) + digit(b);
-            let c = text[start + 2];
-            if separates(c) {
-                return Numeral::Is(two, start + 2);
-            }
-            if is_digit(c) {
-                if separates(text[start + 3]) {
-                    return Numeral::Is(10 * two + digit(c), start + 3);
-                }
-            }
-        }
-    }
-    Numeral::Not
-}
-
-// The same as numeral_at, sooner.
-fn numeral_soon(text: &[u8], start: usize) -> Numeral
-    requires { start ≤ length text.now }
-    ensures { NumeralRead text.now start result }
-{
-    if start + 4 <= text.len() {
-        match short_numeral(text, start) {
-            Numeral::Is(v, end) => Numeral::Is(v, end),
-            Numeral::Not => numeral_at(text, start),
-        }
-    } else {
-        numeral_at(text, start)
-    }
-}
-
 fn past_minus(minus: bool, at: usize) -> usize
     requires { at < 1000000 }
     ensures { result ≡ cond minus (at + 1) at }
@@ -298,7 +197,7 @@ pub fn number_at(text: &[u8], at: usize) -> Signed
     ensures { SignedRead text.now at result }
 {
     let minus = stands_at(text, at, b'-');
-    let Numeral::Is(v, end) = numeral_soon(text, past_minus(minus, at)) else {
+    let Numeral::Is(v, end) = numeral_at(text, past_minus(minus, at)) else {
         return Signed::Not;
     };
     if v == 0 {

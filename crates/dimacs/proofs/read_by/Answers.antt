@@ -1,4 +1,4 @@
-use Rattle.dimacs.proofs.Whole.{formed_as, all_formed, room_stays, used_within, room_small, too_many, fits}
+use Rattle.dimacs.proofs.Whole.{formed_as, room_stays, used_within, room_small, too_many, fits}
 use Rattle.dimacs.specs.Formed.{Formed}
 use Rattle.meaning.specs.Text.{lines, headed}
 use Rattle.meaning.specs.Limits.{small}
@@ -9,23 +9,23 @@ use Rattle.dimacs.proofs.read_by.Goals as goal
 
 pub returns-then-room-used : goal.returns-then-room-used
 returns-then-room-used c =
-    let formed : Formed (headed small (length c.args.text.now) (lines c.args.text.now)) (Words c.in-Words.used) c.clauses.new.words = formed_as c.in-Words.is (all_formed c.requires.0 c.clauses.ensures) in
-    room_small _ c.requires.1.short formed c.if-room-used.true
+    let formed : Formed (headed small (length c.args.text.now) (lines c.args.text.now)) (Words c.in-Words.used) c.formula.new.words = formed_as c.in-Words.is c.formula.ensures in
+    room_small _ c.requires.short formed c.if-room-used.true
 
 pub returns-then-used-gt-WORDS : goal.returns-then-used-gt-WORDS
 returns-then-used-gt-WORDS c =
-    let formed : Formed (headed small (length c.args.text.now) (lines c.args.text.now)) (Words c.in-Words.used) c.clauses.new.words = formed_as c.in-Words.is (all_formed c.requires.0 c.clauses.ensures) in
-    too_many _ c.requires.1.short formed c.if-room-used.false c.if-used-gt-WORDS.true
+    let formed : Formed (headed small (length c.args.text.now) (lines c.args.text.now)) (Words c.in-Words.used) c.formula.new.words = formed_as c.in-Words.is c.formula.ensures in
+    too_many _ c.requires.short formed c.if-room-used.false c.if-used-gt-WORDS.true
 
 pub copy-requires : goal.copy-requires
 copy-requires c =
-    let formed : Formed (headed small (length c.args.text.now) (lines c.args.text.now)) (Words c.in-Words.used) c.clauses.new.words = formed_as c.in-Words.is (all_formed c.requires.0 c.clauses.ensures) in
-    (used_within c.args.text.now c.requires.1.short formed, omega (arith, c.if-room-used.false))
+    let formed : Formed (headed small (length c.args.text.now) (lines c.args.text.now)) (Words c.in-Words.used) c.formula.new.words = formed_as c.in-Words.is c.formula.ensures in
+    (used_within c.args.text.now c.requires.short formed, omega (arith, c.if-room-used.false))
 
 pub returns-in-Faulty : goal.returns-in-Faulty
-returns-in-Faulty c = room_stays _ c.requires.1.short (formed_as c.in-Faulty.is (all_formed c.requires.0 c.clauses.ensures))
+returns-in-Faulty c = room_stays _ c.requires.short (formed_as c.in-Faulty.is c.formula.ensures)
 
 pub returns-else-used-gt-WORDS : goal.returns-else-used-gt-WORDS
 returns-else-used-gt-WORDS c =
-    let formed : Formed (headed small (length c.args.text.now) (lines c.args.text.now)) (Words c.in-Words.used) c.clauses.new.words = formed_as c.in-Words.is (all_formed c.requires.0 c.clauses.ensures) in
-    fits _ c.requires.1.short formed c.if-room-used.false c.if-used-gt-WORDS.false c.copy.ensures
+    let formed : Formed (headed small (length c.args.text.now) (lines c.args.text.now)) (Words c.in-Words.used) c.formula.new.words = formed_as c.in-Words.is c.formula.ensures in
+    fits _ c.requires.short formed c.if-room-used.false c.if-used-gt-WORDS.false c.copy.ensures

@@ -1,18 +1,22 @@
 use mathlib.Core.Path.{refl}
-use Prim.Native.Nat.{◌-◌}
+use Prim.Native.Nat.{◌-◌, ◌≤◌}
 use native.Mathlib.Omega.{arith}
-use lib.ListN.{length-take}
+use lib.ListN.{length, length-take}
 use Rattle.meaning.specs.Limits.{small}
-use Rattle.lines.proofs.Program.{as_rendered, listed_within, check_lines_are}
+use Rattle.lines.proofs.Program.{as_rendered, held_within, check_lines_are}
 use Rattle.lines.proofs.print_check.Goals as goal
+
+pub check-verdict-requires : goal.check-verdict-requires
+check-verdict-requires c = tt
 
 pub slice_bounds-render-end : goal.slice_bounds-render-end
 slice_bounds-render-end c =
-    listed_within small c.args.formula.now c.args.trace.now _ c.check-ruling.new.counts c.check-ruling.result c.check-ruling.ensures c.args.mode c.listed-lines.ensures
+    let within : c.held-lines.result ≤ length c.check-verdict.new.counts = held_within small c.args.formula.now c.args.trace.now _ c.check-verdict.new.counts c.check-verdict.result c.held-lines.result c.check-verdict.ensures c.held-lines.ensures in
+    within
 
 pub render-requires : goal.render-requires
-render-requires c = rw length-take (omega (arith, c.check-ruling.auto.counts))
+render-requires c = rw length-take (omega (arith, c.check-verdict.auto.counts))
 
 pub returns : goal.returns
 returns c =
-    as_rendered (check_lines_are small c.args.formula.now c.args.trace.now _ c.check-ruling.new.counts c.check-ruling.result c.check-ruling.ensures c.args.mode (c.listed-lines.result - 0) 1024 (omega arith) c.listed-lines.ensures refl) c.render.ensures
+    as_rendered (check_lines_are small c.args.formula.now c.args.trace.now _ c.check-verdict.new.counts c.check-verdict.result c.held-lines.result c.check-verdict.ensures c.held-lines.ensures (c.held-lines.result - 0) 1024 (omega arith) refl) c.render.ensures

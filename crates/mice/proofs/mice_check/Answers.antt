@@ -7,4 +7,4 @@ pub returns-then-answer-lt-ANSWER_PLACES : goal.returns-then-answer-lt-ANSWER_PL
 returns-then-answer-lt-ANSWER_PLACES c = check_short (omega arith)
 
 pub returns : goal.returns
-returns c = check_long (omega arith) c.check-ruling.ensures c.say.ensures.value c.say.ensures.answer_after
+returns c = check_long (omega arith) c.check-verdict.ensures c.say.ensures.value c.say.ensures.answer_after

@@ -9,7 +9,3 @@ returns-in-Accepted c =
 pub returns-in-Refused : goal.returns-in-Refused
 returns-in-Refused c =
     record { value = ap number_of (sym c.in-Refused.is); answer_after = c.put-in-Refused.ensures ∙ ap (λ v. over (answer_of v) c.args.answer.now) (sym c.in-Refused.is) }
-
-pub returns-in-Unrefuted : goal.returns-in-Unrefuted
-returns-in-Unrefuted c =
-    record { value = ap number_of (sym c.in-Unrefuted.is); answer_after = c.put-in-Unrefuted.ensures ∙ ap (λ v. over (answer_of v) c.args.answer.now) (sym c.in-Unrefuted.is) }

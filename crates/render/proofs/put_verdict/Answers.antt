@@ -6,14 +6,8 @@ put_accepted-requires c = rw c.in-Accepted.is at c.requires
 pub put_pair-requires : goal.put_pair-requires
 put_pair-requires c = rw c.in-Refused.is at c.requires
 
-pub put_unrefuted-requires : goal.put_unrefuted-requires
-put_unrefuted-requires c = rw c.in-Unrefuted.is at c.requires
-
 pub returns-in-Accepted : goal.returns-in-Accepted
 returns-in-Accepted c = rw c.in-Accepted.is c.put_accepted.ensures
 
 pub returns-in-Refused : goal.returns-in-Refused
 returns-in-Refused c = rw c.in-Refused.is c.put_pair.ensures
-
-pub returns-in-Unrefuted : goal.returns-in-Unrefuted
-returns-in-Unrefuted c = rw c.in-Unrefuted.is c.put_unrefuted.ensures

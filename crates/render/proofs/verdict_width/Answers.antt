@@ -10,7 +10,3 @@ returns-in-Accepted c = rw c.in-Accepted.is (simp length-append (omega arith))
 pub returns-in-Refused : goal.returns-in-Refused
 unfolding named
 returns-in-Refused c = rw c.in-Refused.is (simp length-append (omega arith))
-
-pub returns-in-Unrefuted : goal.returns-in-Unrefuted
-unfolding named
-returns-in-Unrefuted c = rw c.in-Unrefuted.is (simp length-append (omega arith))

@@ -1,10 +1,15 @@
-use Rattle.tokens.proofs.Numbers.{digit_low, digit_high}
-use native.Mathlib.Omega.{arith}
-use mathlib.Core.Path.{refl}
+use Rattle.tokens.specs.Numbers.{is_digit}
+use borrow.Author.Tests.{le-leb, lt-leb}
 use Rattle.tokens.proofs.digit.Goals as goal
 
-pub overflow_sub-result : goal.overflow_sub-result
-overflow_sub-result c = digit_low _ c.requires
+pub returns-then-b-lt48 : goal.returns-then-b-lt48
+unfolding is_digit
+returns-then-b-lt48 c = simp (lt-leb 48 _ c.if-b-lt48.true)
+
+pub returns-then-b-gt57 : goal.returns-then-b-gt57
+unfolding is_digit
+returns-then-b-gt57 c = simp (le-leb 48 _ c.if-b-lt48.false, lt-leb _ 57 c.if-b-gt57.true)
 
 pub returns : goal.returns
-returns c = (refl, omega (arith, digit_high _ c.requires))
+unfolding is_digit
+returns c = simp (le-leb 48 _ c.if-b-lt48.false, le-leb _ 57 c.if-b-gt57.false)

@@ -1,37 +1,33 @@
-use Rattle.tokens.proofs.Places.{onward_none, onward_run, onward_comment, next_blank, next_here, next_none}
+use Rattle.tokens.proofs.Places.{gap_line_end, gap_blank}
+use Rattle.tokens.specs.Scan.{parts}
+use borrow.Author.Tests.{ne_eqb}
 use native.Mathlib.Omega.{arith}
-use mathlib.Core.Path.{sym, ◌∙◌}
+use mathlib.Core.Path.{refl, sym, ◌∙◌}
 use Rattle.tokens.proofs.next.Goals as goal
 
 pub loop-at-init : goal.loop-at-init
-loop-at-init c = onward_none c.requires
-
-pub past_run-at-requires : goal.past_run-at-requires
-past_run-at-requires c = omega arith
-
-pub loop-at-smaller-then-parted_at : goal.loop-at-smaller-then-parted_at
-loop-at-smaller-then-parted_at c = omega (arith, c.past_run-at.ensures.onward)
-
-pub loop-at-preserved-then-parted_at : goal.loop-at-preserved-then-parted_at
-loop-at-preserved-then-parted_at c =
-    onward_run c.loop-at.invariant c.loop-at-test.true (sym c.separates.ensures ∙ c.if-separates.true) (sym c.parted_at.ensures ∙ c.if-parted_at.true) c.past_run-at.ensures
+loop-at-init c = (omega arith, c.requires, refl)
 
 pub past_comment-at-requires : goal.past_comment-at-requires
 past_comment-at-requires c = omega arith
 
-pub loop-at-smaller : goal.loop-at-smaller
-loop-at-smaller c = omega (arith, c.past_comment-at.ensures.onward)
+pub loop-at-smaller-then-b-eq10 : goal.loop-at-smaller-then-b-eq10
+loop-at-smaller-then-b-eq10 c =
+    omega (arith, c.past_comment-at.ensures.onward)
+
+pub loop-at-preserved-then-b-eq10 : goal.loop-at-preserved-then-b-eq10
+loop-at-preserved-then-b-eq10 c =
+    (omega (arith, c.past_comment-at.ensures.onward), c.past_comment-at.ensures.within, c.loop-at.invariant.2 ∙ gap_line_end _ _ c.loop-at-test.true c.if-b-eq10.true ∙ c.past_comment-at.ensures.same)
 
 pub loop-at-preserved : goal.loop-at-preserved
 loop-at-preserved c =
-    onward_comment c.loop-at.invariant c.loop-at-test.true c.if-b-eq10.true c.past_comment-at.ensures
+    (omega arith, omega arith, c.loop-at.invariant.2 ∙ gap_blank _ _ c.loop-at-test.true (sym c.is_blank.ensures ∙ c.if-is_blank.true))
 
-pub returns-else-b-eq10 : goal.returns-else-b-eq10
-returns-else-b-eq10 c =
-    next_blank c.loop-at.invariant c.loop-at-test.true (sym c.separates.ensures ∙ c.if-separates.true) c.if-b-eq10.false (sym c.parted_at.ensures ∙ c.if-parted_at.false)
-
-pub returns-else-separates : goal.returns-else-separates
-returns-else-separates c = next_here c.loop-at.invariant (sym c.separates.ensures ∙ c.if-separates.false)
+pub returns-else-is_blank : goal.returns-else-is_blank
+unfolding parts
+returns-else-is_blank c =
+    record { onward = c.loop-at.invariant.0; within = c.loop-at.invariant.1; same = c.loop-at.invariant.2; reached = λ h. rw (ne_eqb _ _ c.if-b-eq10.false) (sym c.is_blank.ensures ∙ c.if-is_blank.false) }
 
 pub returns : goal.returns
-returns c = next_none c.loop-at.invariant c.loop-at-test.false
+returns c =
+    record { onward = c.loop-at.invariant.0; within = c.loop-at.invariant.1; same = c.loop-at.invariant.2; reached = λ h. absurd (omega (arith, h, c.loop-at-test.false)) }

@@ -1,10 +1,11 @@
-use Rattle.tokens.specs.Scan.{Onward}
+use Rattle.tokens.specs.Scan.{tokens_from}
 use lib.ListN.{length}
-use Prim.Native.Nat.{◌-◌}
+use mathlib.Core.Path.{◌≡◌}
+use Prim.Native.Nat.{◌-◌, ◌≤◌}
 use Rattle.tokens.proofs.next.Given as goal
 
 abbrev pub invariant-loop-at : goal.invariant-loop-at
-invariant-loop-at l = Onward l.text l.start l.at
+invariant-loop-at l = (l.start ≤ l.at) × (l.at ≤ length l.text) × (tokens_from l.text l.start ≡ tokens_from l.text l.at)
 
 abbrev pub decreases-loop-at : goal.decreases-loop-at
 decreases-loop-at l = length l.text - l.at
