@@ -8,10 +8,6 @@ pub returns-then-same_before : goal.returns-then-same_before
 returns-then-same_before c =
     twice c.args.minus c.requires.0 c.requires.2 c.spot-at.ensures c.same_before.ensures c.if-same_before.true
 
-pub returns-then-k-eq-CLAUSE_LENGTH : goal.returns-then-k-eq-CLAUSE_LENGTH
-returns-then-k-eq-CLAUSE_LENGTH c =
-    full c.args.minus c.requires.0 c.requires.2 c.spot-at.ensures c.same_before.ensures c.if-same_before.false c.if-k-eq-CLAUSE_LENGTH.true
-
 pub returns : goal.returns
 returns c =
     let f : SFits w16 c.literal-w.result = record { sfits = c.literal-w.type_inv } in

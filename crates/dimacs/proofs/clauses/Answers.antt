@@ -8,13 +8,6 @@ use mathlib.Core.Path.{◌≡◌, refl, subst, ◌∙◌}
 use mathlib.Core.List.{[]}
 use Rattle.dimacs.proofs.clauses.Goals as goal
 
-pub begin-requires : goal.begin-requires
-begin-requires c =
-    (c.requires.0.few_variables, c.requires.0.few_clauses, omega (arith, c.requires.1.enough))
-
-pub next-at-requires : goal.next-at-requires
-next-at-requires c = c.requires.0.within
-
 pub loop-at-init : goal.loop-at-init
 loop-at-init c = (
   record {
@@ -28,81 +21,41 @@ loop-at-init c = (
   refl,
 )
 
-pub number_at-requires : goal.number_at-requires
-number_at-requires c = (c.loop-at-test.true, c.loop-at.invariant.0.short)
-
 pub returns-in_default : goal.returns-in_default
 returns-in_default c =
     no_number c.loop-at.invariant.0.going c.loop-at-test.true (subst (SignedRead _ _) c.in_default.is c.number_at.ensures)
 
 pub next-after-requires : goal.next-after-requires
 next-after-requires c =
-    let read : SignedRead c.args.text.now c.loop-at.at (signs.Is c.in-Is.v c.in-Is.minus c.in-Is.end) = subst (SignedRead _ _) c.in-Is.is c.number_at.ensures in
-    end_within c.loop-at.invariant.0 c.loop-at-test.true c.in-Is.v c.in-Is.minus read
+    end_within c.loop-at.invariant.0 c.loop-at-test.true c.in-Is.v c.in-Is.minus c.in-Is.ensures
 
 pub returns-then-ended-m : goal.returns-then-ended-m
 returns-then-ended-m c =
-    let read : SignedRead c.args.text.now c.loop-at.at (signs.Is c.in-Is.v c.in-Is.minus c.in-Is.end) = subst (SignedRead _ _) c.in-Is.is c.number_at.ensures in
-    fault_6 c.loop-at.invariant.0.going c.loop-at-test.true c.in-Is.v c.in-Is.minus read c.next-after.ensures c.if-ended-m.true
+    fault_6 c.loop-at.invariant.0.going c.loop-at-test.true c.in-Is.v c.in-Is.minus c.in-Is.ensures c.next-after.ensures c.if-ended-m.true
 
 pub returns-then-n-v : goal.returns-then-n-v
 returns-then-n-v c =
-    let read : SignedRead c.args.text.now c.loop-at.at (signs.Is c.in-Is.v c.in-Is.minus c.in-Is.end) = subst (SignedRead _ _) c.in-Is.is c.number_at.ensures in
-    fault_4 c.loop-at.invariant.0.going c.loop-at-test.true c.in-Is.v c.in-Is.minus read c.next-after.ensures c.if-ended-m.false c.if-n-v.true
-
-pub close-requires : goal.close-requires
-close-requires c =
-    room_to_close c.loop-at.invariant.0 c.loop-at-test.true
-
-pub overflow_add-used : goal.overflow_add-used
-overflow_add-used c = let r = room_to_close c.loop-at.invariant.0 c.loop-at-test.true in omega (arith, r.2, c.loop-at.invariant.1, c.well_formed)
-
-pub overflow_add-used-then-v-eq0 : goal.overflow_add-used-then-v-eq0
-overflow_add-used-then-v-eq0 c =
-    let words_long : length c.loop-at.words ≡ length c.args.words.now = c.loop-at.invariant.1 ∙ c.begin.auto.words in
-    let r = room_to_close c.loop-at.invariant.0 c.loop-at-test.true in omega (arith, r.2, words_long, c.well_formed)
-
-pub overflow_add-ended : goal.overflow_add-ended
-overflow_add-ended c = omega (arith, c.loop-at.invariant.0.going.few, c.requires.0.few_clauses)
-
-pub loop-at-smaller-then-v-eq0 : goal.loop-at-smaller-then-v-eq0
-loop-at-smaller-then-v-eq0 c =
-    let read : SignedRead c.args.text.now c.loop-at.at (signs.Is c.in-Is.v c.in-Is.minus c.in-Is.end) = subst (SignedRead _ _) c.in-Is.is c.number_at.ensures in
-    omega (arith, after_onward c.loop-at.invariant.0 c.loop-at-test.true c.in-Is.v c.in-Is.minus read c.next-after.ensures, c.loop-at-test.true)
+    fault_4 c.loop-at.invariant.0.going c.loop-at-test.true c.in-Is.v c.in-Is.minus c.in-Is.ensures c.next-after.ensures c.if-ended-m.false c.if-n-v.true
 
 pub loop-at-preserved-then-v-eq0 : goal.loop-at-preserved-then-v-eq0
 loop-at-preserved-then-v-eq0 c =
-    let read : SignedRead c.args.text.now c.loop-at.at (signs.Is c.in-Is.v c.in-Is.minus c.in-Is.end) = subst (SignedRead _ _) c.in-Is.is c.number_at.ensures in (
-      stand_closed c.loop-at.invariant.0 c.loop-at-test.true c.in-Is.v c.in-Is.minus read c.next-after.ensures c.if-ended-m.false c.if-n-v.false c.if-v-eq0.true c.close.ensures,
+    (
+      stand_closed c.loop-at.invariant.0 c.loop-at-test.true c.in-Is.v c.in-Is.minus c.in-Is.ensures c.next-after.ensures c.if-ended-m.false c.if-n-v.false c.if-v-eq0.true c.close.ensures,
       c.close.ensures.as_long ∙ c.loop-at.invariant.1,
       c.loop-at.invariant.2,
     )
 
-pub add-requires : goal.add-requires
-add-requires c =
-    let read : SignedRead c.args.text.now c.loop-at.at (signs.Is c.in-Is.v c.in-Is.minus c.in-Is.end) = subst (SignedRead _ _) c.in-Is.is c.number_at.ensures in
-    may_add c.loop-at.invariant.0 c.loop-at-test.true c.in-Is.v c.in-Is.minus read c.next-after.ensures c.if-ended-m.false c.if-n-v.false c.if-v-eq0.false
-
-pub overflow_add-k : goal.overflow_add-k
-overflow_add-k c = omega (arith, c.loop-at.invariant.0.going.begun.few)
-
-pub loop-at-smaller : goal.loop-at-smaller
-loop-at-smaller c =
-    let read : SignedRead c.args.text.now c.loop-at.at (signs.Is c.in-Is.v c.in-Is.minus c.in-Is.end) = subst (SignedRead _ _) c.in-Is.is c.number_at.ensures in
-    omega (arith, after_onward c.loop-at.invariant.0 c.loop-at-test.true c.in-Is.v c.in-Is.minus read c.next-after.ensures, c.loop-at-test.true)
-
 pub loop-at-preserved : goal.loop-at-preserved
 loop-at-preserved c =
-    let read : SignedRead c.args.text.now c.loop-at.at (signs.Is c.in-Is.v c.in-Is.minus c.in-Is.end) = subst (SignedRead _ _) c.in-Is.is c.number_at.ensures in (
-      stand_added c.loop-at.invariant.0 c.loop-at-test.true c.in-Is.v c.in-Is.minus read c.next-after.ensures c.if-ended-m.false c.if-n-v.false c.if-v-eq0.false c.add.ensures c.if-add.true,
+    (
+      stand_added c.loop-at.invariant.0 c.loop-at-test.true c.in-Is.v c.in-Is.minus c.in-Is.ensures c.next-after.ensures c.if-ended-m.false c.if-n-v.false c.if-v-eq0.false c.add.ensures c.if-add.true,
       c.loop-at.invariant.1,
       c.add.auto.clause ∙ c.loop-at.invariant.2,
     )
 
 pub returns-else-add : goal.returns-else-add
 returns-else-add c =
-    let read : SignedRead c.args.text.now c.loop-at.at (signs.Is c.in-Is.v c.in-Is.minus c.in-Is.end) = subst (SignedRead _ _) c.in-Is.is c.number_at.ensures in
-    fault_5 c.loop-at.invariant.0.going c.loop-at-test.true c.in-Is.v c.in-Is.minus read c.next-after.ensures c.if-ended-m.false c.if-n-v.false c.if-v-eq0.false c.add.ensures c.if-add.false
+    fault_5 c.loop-at.invariant.0.going c.loop-at-test.true c.in-Is.v c.in-Is.minus c.in-Is.ensures c.next-after.ensures c.if-ended-m.false c.if-n-v.false c.if-v-eq0.false c.add.ensures c.if-add.false
 
 pub returns-then-ended-m-2 : goal.returns-then-ended-m-2
 returns-then-ended-m-2 c = all_read c.loop-at.invariant.0.going c.loop-at-test.false c.if-ended-m-2.true c.loop-at.invariant.0.enough

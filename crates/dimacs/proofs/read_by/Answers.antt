@@ -9,23 +9,19 @@ use Rattle.dimacs.proofs.read_by.Goals as goal
 
 pub returns-then-room-used : goal.returns-then-room-used
 returns-then-room-used c =
-    let formed : Formed (headed small (length c.args.text.now) (lines c.args.text.now)) (Words c.in-Words.used) c.formula.new.words = formed_as c.in-Words.is c.formula.ensures in
-    room_small _ c.requires.short formed c.if-room-used.true
+    room_small _ c.requires.short c.in-Words.ensures c.if-room-used.true
 
 pub returns-then-used-gt-WORDS : goal.returns-then-used-gt-WORDS
 returns-then-used-gt-WORDS c =
-    let formed : Formed (headed small (length c.args.text.now) (lines c.args.text.now)) (Words c.in-Words.used) c.formula.new.words = formed_as c.in-Words.is c.formula.ensures in
-    too_many _ c.requires.short formed c.if-room-used.false c.if-used-gt-WORDS.true
+    too_many _ c.requires.short c.in-Words.ensures c.if-room-used.false c.if-used-gt-WORDS.true
 
 pub copy-requires : goal.copy-requires
 copy-requires c =
-    let formed : Formed (headed small (length c.args.text.now) (lines c.args.text.now)) (Words c.in-Words.used) c.formula.new.words = formed_as c.in-Words.is c.formula.ensures in
-    (used_within c.args.text.now c.requires.short formed, omega (arith, c.if-room-used.false))
+    (used_within c.args.text.now c.requires.short c.in-Words.ensures, omega (arith, c.if-room-used.false))
 
 pub returns-in-Faulty : goal.returns-in-Faulty
-returns-in-Faulty c = room_stays _ c.requires.short (formed_as c.in-Faulty.is c.formula.ensures)
+returns-in-Faulty c = room_stays _ c.requires.short c.in-Faulty.ensures
 
 pub returns-else-used-gt-WORDS : goal.returns-else-used-gt-WORDS
 returns-else-used-gt-WORDS c =
-    let formed : Formed (headed small (length c.args.text.now) (lines c.args.text.now)) (Words c.in-Words.used) c.formula.new.words = formed_as c.in-Words.is c.formula.ensures in
-    fits _ c.requires.short formed c.if-room-used.false c.if-used-gt-WORDS.false c.copy.ensures
+    fits _ c.requires.short c.in-Words.ensures c.if-room-used.false c.if-used-gt-WORDS.false c.copy.ensures

@@ -6,13 +6,6 @@ use Rattle.meaning.specs.Text.{dimacs}
 use Rattle.lines.proofs.Program.{as_printed, words_within, program_words, program_fault}
 use Rattle.lines.proofs.print.Goals as goal
 
-pub read-answer-requires : goal.read-answer-requires
-read-answer-requires c = tt
-
-pub slice_bounds-print_trace-end : goal.slice_bounds-print_trace-end
-slice_bounds-print_trace-end c =
-    words_within _ c.read-answer.new.room (dimacs small _ _) c.read-answer.ensures.room_is (sym c.in-Words.is ∙ c.read-answer.ensures.answer_is)
-
 pub returns-in-Words : goal.returns-in-Words
 returns-in-Words c =
     as_printed (program_words small c.args.text.now c.args.trace.now _ c.read-answer.new.room refl (c.in-Words.count - 0) (omega arith) c.in-Words.is c.read-answer.ensures) c.print_trace.ensures

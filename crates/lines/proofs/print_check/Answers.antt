@@ -6,16 +6,10 @@ use Rattle.meaning.specs.Limits.{small}
 use Rattle.lines.proofs.Program.{as_rendered, held_within, check_lines_are}
 use Rattle.lines.proofs.print_check.Goals as goal
 
-pub check-verdict-requires : goal.check-verdict-requires
-check-verdict-requires c = tt
-
 pub slice_bounds-render-end : goal.slice_bounds-render-end
 slice_bounds-render-end c =
     let within : c.held-lines.result ≤ length c.check-verdict.new.counts = held_within small c.args.formula.now c.args.trace.now _ c.check-verdict.new.counts c.check-verdict.result c.held-lines.result c.check-verdict.ensures c.held-lines.ensures in
     within
-
-pub render-requires : goal.render-requires
-render-requires c = rw length-take (omega (arith, c.check-verdict.auto.counts))
 
 pub returns : goal.returns
 returns c =

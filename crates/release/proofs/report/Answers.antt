@@ -4,11 +4,6 @@ use Rattle.release.specs.Report.{well_formed, report_of}
 use Rattle.release.proofs.Turn.{formed_few, formed_within}
 use Rattle.release.proofs.report.Goals as goal
 
-pub report_over-requires : goal.report_over-requires
-report_over-requires c =
-    let formed : well_formed c.args.answers.now ≡ true = sym c.well_formed-2.ensures ∙ c.if-well_formed.true in
-    record { count_le_most_answers = formed_few c.args.answers.now formed; answer_places_in_bounds = formed_within c.args.answers.now }
-
 pub returns-then-well_formed : goal.returns-then-well_formed
 unfolding report_of
 returns-then-well_formed c =

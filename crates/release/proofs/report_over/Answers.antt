@@ -2,9 +2,6 @@ use native.Mathlib.Omega.{arith}
 use Rattle.release.proofs.Turn.{over_none, over_few, over_more, over_refused, over_all}
 use Rattle.release.proofs.report_over.Goals as goal
 
-pub loop-i-init : goal.loop-i-init
-loop-i-init c = (omega arith, over_none c.nothing-figures.ensures)
-
 pub add-requires : goal.add-requires
 add-requires c = omega (arith, over_few c.loop-i.invariant.1)
 

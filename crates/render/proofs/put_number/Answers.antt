@@ -8,14 +8,8 @@ use Rattle.render.proofs.Digits.{first_digit, next_digit, some_digit}
 use Rattle.render.proofs.put_number.Goals as goal
 use Rattle.render.proofs.put_number.Invariants.{start}
 
-pub loop-rest-init : goal.loop-rest-init
-loop-rest-init c = (omega arith, c.ranges.number.fits, omega arith, refl, refl)
-
 pub overflow_sub-at : goal.overflow_sub-at
 overflow_sub-at c = some_digit [] (start c.args.end c.args.number) c.loop-rest.at c.loop-rest.rest _ c.loop-rest.invariant.1 c.loop-rest.invariant.0 refl
-
-pub digit-requires : goal.digit-requires
-digit-requires c = omega arith
 
 pub bounds-buffer-at : goal.bounds-buffer-at
 bounds-buffer-at c = omega (arith, c.loop-rest.invariant, (some_digit [] (start c.args.end c.args.number) c.loop-rest.at c.loop-rest.rest _ c.loop-rest.invariant.1 c.loop-rest.invariant.0 refl))
@@ -25,9 +19,6 @@ returns-then-rest-lt10 c =
     let s = start c.args.end c.args.number in
     let t = first_digit c.loop-rest.buffer s c.loop-rest.at c.loop-rest.rest c.digit.result c.loop-rest.invariant.1 c.loop-rest.invariant.0 c.digit.ensures c.if-rest-lt10.true in
     record { starts = omega (arith, t.0); written = t.1 ∙ c.loop-rest.invariant.4 ∙ ap (λ k. sets c.args.buffer.now k (shown c.args.number)) (sym t.0) }
-
-pub loop-rest-smaller : goal.loop-rest-smaller
-loop-rest-smaller c = omega arith
 
 pub loop-rest-preserved : goal.loop-rest-preserved
 loop-rest-preserved c =

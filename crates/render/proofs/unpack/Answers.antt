@@ -11,44 +11,6 @@ use Rattle.render.proofs.Words.{word_is, word_turn, no_word, word_count}
 use Rattle.render.proofs.Sets.{sets_over}
 use Rattle.render.proofs.unpack.Goals as goal
 
-pub loop-i-init : goal.loop-i-init
-loop-i-init c = (omega arith, refl, refl)
-
-pub overflow_mul-i : goal.overflow_mul-i
-overflow_mul-i c = omega arith
-
-pub bounds-bytes-i : goal.bounds-bytes-i
-bounds-bytes-i c = omega arith
-
-pub overflow_mul-i-in-loop-i : goal.overflow_mul-i-in-loop-i
-overflow_mul-i-in-loop-i c = omega arith
-
-pub overflow_add-i : goal.overflow_add-i
-overflow_add-i c = omega arith
-
-pub bounds-bytes-i-in-loop-i : goal.bounds-bytes-i-in-loop-i
-bounds-bytes-i-in-loop-i c = omega arith
-
-pub word_of-requires : goal.word_of-requires
-word_of-requires c = tt
-
-pub offset_bounds-words-i : goal.offset_bounds-words-i
-offset_bounds-words-i c = omega arith
-
-pub bounds-words-i : goal.bounds-words-i
-bounds-words-i c = omega arith
-
-pub overflow_add-i-in-loop-i : goal.overflow_add-i-in-loop-i
-overflow_add-i-in-loop-i c = omega arith
-
-pub loop-i-smaller : goal.loop-i-smaller
-loop-i-smaller c = omega arith
-
-pub loop-i-preserved : goal.loop-i-preserved
-loop-i-preserved c =
-    let more : 2 * c.loop-i.i + 1 < length c.args.bytes.now = omega arith in
-    (omega arith, simp length-set c.loop-i.invariant.1, word_turn c.loop-i.words c.args.bytes.now c.loop-i.i more (to_z-of_z {w = w16} (record { sfits = c.word_of.type_inv }) ∙ word_is (get_or c.args.bytes.now (2 * c.loop-i.i) 0) (get_or c.args.bytes.now (2 * c.loop-i.i + 1) 0) c.word_of.ensures) ∙ c.loop-i.invariant.2)
-
 pub returns : goal.returns
 returns c =
     let few : length (words_of c.args.bytes.now) ≤ length c.args.words.now = omega (arith, word_count c.args.bytes.now) in

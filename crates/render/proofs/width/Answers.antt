@@ -4,14 +4,8 @@ use lib.ListN.{length, length-append}
 use Rattle.render.proofs.Digits.{last_digit, digit_before, few_digits}
 use Rattle.render.proofs.width.Goals as goal
 
-pub loop-rest-init : goal.loop-rest-init
-loop-rest-init c = omega arith
-
 pub overflow_add-digits : goal.overflow_add-digits
 overflow_add-digits c = omega (arith, few_digits c.args.number)
-
-pub loop-rest-smaller : goal.loop-rest-smaller
-loop-rest-smaller c = omega arith
 
 pub loop-rest-preserved : goal.loop-rest-preserved
 loop-rest-preserved c =

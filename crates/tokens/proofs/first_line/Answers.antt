@@ -32,7 +32,3 @@ loop-at-smaller c =
 pub loop-at-preserved : goal.loop-at-preserved
 loop-at-preserved c =
     next_line _ _ c.loop-at.invariant.0 c.line_end-end.ensures c.loop-at.invariant.1 c.solid.ensures c.if-solid.false c.if-end-text.false
-
-pub returns : goal.returns
-returns c =
-    no_line c.loop-at.invariant.0 c.loop-at-test.false c.loop-at.invariant.1

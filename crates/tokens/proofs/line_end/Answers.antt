@@ -2,9 +2,6 @@ use Rattle.tokens.proofs.Places.{line_stops, line_goes, line_ends}
 use mathlib.Core.Path.{refl, sym, ◌∙◌}
 use Rattle.tokens.proofs.line_end.Goals as goal
 
-pub loop-at-init : goal.loop-at-init
-loop-at-init c = refl
-
 pub returns-then-text-at-eq10 : goal.returns-then-text-at-eq10
 returns-then-text-at-eq10 c = sym (line_stops _ _ c.loop-at-test.true c.if-text-at-eq10.true) ∙ c.loop-at.invariant
 

@@ -5,16 +5,6 @@ use native.Mathlib.Omega.{arith}
 use mathlib.Core.Path.{refl, sym, ◌∙◌}
 use Rattle.tokens.proofs.next.Goals as goal
 
-pub loop-at-init : goal.loop-at-init
-loop-at-init c = (omega arith, c.requires, refl)
-
-pub past_comment-at-requires : goal.past_comment-at-requires
-past_comment-at-requires c = omega arith
-
-pub loop-at-smaller-then-b-eq10 : goal.loop-at-smaller-then-b-eq10
-loop-at-smaller-then-b-eq10 c =
-    omega (arith, c.past_comment-at.ensures.onward)
-
 pub loop-at-preserved-then-b-eq10 : goal.loop-at-preserved-then-b-eq10
 loop-at-preserved-then-b-eq10 c =
     (omega (arith, c.past_comment-at.ensures.onward), c.past_comment-at.ensures.within, c.loop-at.invariant.2 ∙ gap_line_end _ _ c.loop-at-test.true c.if-b-eq10.true ∙ c.past_comment-at.ensures.same)
@@ -27,7 +17,3 @@ pub returns-else-is_blank : goal.returns-else-is_blank
 unfolding parts
 returns-else-is_blank c =
     record { onward = c.loop-at.invariant.0; within = c.loop-at.invariant.1; same = c.loop-at.invariant.2; reached = λ h. rw (ne_eqb _ _ c.if-b-eq10.false) (sym c.is_blank.ensures ∙ c.if-is_blank.false) }
-
-pub returns : goal.returns
-returns c =
-    record { onward = c.loop-at.invariant.0; within = c.loop-at.invariant.1; same = c.loop-at.invariant.2; reached = λ h. absurd (omega (arith, h, c.loop-at-test.false)) }

@@ -3,9 +3,6 @@ use native.Mathlib.Omega.{arith}
 use mathlib.Core.Path.{sym, ◌∙◌}
 use Rattle.tokens.proofs.past_comment.Goals as goal
 
-pub overflow_add-at : goal.overflow_add-at
-overflow_add-at c = let h = stands_inside _ _ 99 (sym c.stands_at.ensures ∙ c.if-stands_at.true) in omega arith
-
 pub returns-then-stands_at : goal.returns-then-stands_at
 returns-then-stands_at c = rw c.line_end.ensures (past_one _ _ (sym c.stands_at.ensures ∙ c.if-stands_at.true))
 
