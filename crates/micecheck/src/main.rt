@@ -3,6 +3,8 @@
 #![tactic(auto)]
 
 ghost use Rattle.std.specs.Prelude.{◌≡◌, ◌≤◌, length, take};
+ghost use Rattle.meaning.specs.Limits.{small};
+ghost use Rattle.meaning.specs.Promise.{Printed};
 
 use std::io;
 use std::io::Write;
@@ -12,7 +14,8 @@ const FILE: usize = 65536;
 
 // What is to be printed, at the buffer's start.
 fn print(text: &[u8], trace: &[u8], buffer: &mut [u8]) -> usize
-    ensures { (result ≤ length buffer.new) × (result ≡ length (take result buffer.new)) }
+    ensures within { (result ≤ length buffer.new) × (result ≡ length (take result buffer.new)) }
+    ensures printed { Printed small text.now trace.now buffer.old result buffer.new }
 {
     lines::print(text, trace, buffer)
 }

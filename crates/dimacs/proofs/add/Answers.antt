@@ -1,6 +1,6 @@
 use mir.Val.{SFits}
 use mir.Syntax.{w16}
-use Rattle.dimacs.proofs.Rising.{twice, full, put}
+use Rattle.dimacs.proofs.Rising.{twice, put}
 use Rattle.words.proofs.Words.{back}
 use Rattle.dimacs.proofs.add.Goals as goal
 

@@ -1,10 +1,8 @@
-use Rattle.dimacs.proofs.Steps.{room_to_close, end_within, after_onward, stand_closed, may_add, stand_added}
+use Rattle.dimacs.proofs.Steps.{end_within, stand_closed, stand_added}
 use Rattle.dimacs.proofs.Steps.{going_none, no_number, fault_6, fault_4, fault_5, too_few, all_read}
 use Rattle.tokens.specs.Numbers.{SignedRead}
-use Rattle.tokens.specs.declared.Signed.TheVariants as signs
-use lib.ListN.{length}
 use native.Mathlib.Omega.{arith}
-use mathlib.Core.Path.{◌≡◌, refl, subst, ◌∙◌}
+use mathlib.Core.Path.{refl, subst, ◌∙◌}
 use mathlib.Core.List.{[]}
 use Rattle.dimacs.proofs.clauses.Goals as goal
 
@@ -38,20 +36,18 @@ returns-then-n-v c =
     fault_4 c.loop-at.invariant.0.going c.loop-at-test.true c.in-Is.v c.in-Is.minus c.in-Is.ensures c.next-after.ensures c.if-ended-m.false c.if-n-v.true
 
 pub loop-at-preserved-then-v-eq0 : goal.loop-at-preserved-then-v-eq0
-loop-at-preserved-then-v-eq0 c =
-    (
-      stand_closed c.loop-at.invariant.0 c.loop-at-test.true c.in-Is.v c.in-Is.minus c.in-Is.ensures c.next-after.ensures c.if-ended-m.false c.if-n-v.false c.if-v-eq0.true c.close.ensures,
-      c.close.ensures.as_long ∙ c.loop-at.invariant.1,
-      c.loop-at.invariant.2,
-    )
+loop-at-preserved-then-v-eq0 c = (
+  stand_closed c.loop-at.invariant.0 c.loop-at-test.true c.in-Is.v c.in-Is.minus c.in-Is.ensures c.next-after.ensures c.if-ended-m.false c.if-n-v.false c.if-v-eq0.true c.close.ensures,
+  c.close.ensures.as_long ∙ c.loop-at.invariant.1,
+  c.loop-at.invariant.2,
+)
 
 pub loop-at-preserved : goal.loop-at-preserved
-loop-at-preserved c =
-    (
-      stand_added c.loop-at.invariant.0 c.loop-at-test.true c.in-Is.v c.in-Is.minus c.in-Is.ensures c.next-after.ensures c.if-ended-m.false c.if-n-v.false c.if-v-eq0.false c.add.ensures c.if-add.true,
-      c.loop-at.invariant.1,
-      c.add.auto.clause ∙ c.loop-at.invariant.2,
-    )
+loop-at-preserved c = (
+  stand_added c.loop-at.invariant.0 c.loop-at-test.true c.in-Is.v c.in-Is.minus c.in-Is.ensures c.next-after.ensures c.if-ended-m.false c.if-n-v.false c.if-v-eq0.false c.add.ensures c.if-add.true,
+  c.loop-at.invariant.1,
+  c.add.auto.clause ∙ c.loop-at.invariant.2,
+)
 
 pub returns-else-add : goal.returns-else-add
 returns-else-add c =

@@ -1,7 +1,6 @@
-use Rattle.dimacs.proofs.Buffers.{copied_none, copied_more, copied_length}
+use Rattle.dimacs.proofs.Buffers.{copied_more}
 use Rattle.words.proofs.Words.{back}
 use native.Mathlib.Omega.{arith}
-use mathlib.Core.Path.{◌≡◌}
 use Rattle.dimacs.proofs.copy.Goals as goal
 
 pub loop-i-preserved : goal.loop-i-preserved

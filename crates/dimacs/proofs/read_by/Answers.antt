@@ -1,9 +1,4 @@
-use Rattle.dimacs.proofs.Whole.{formed_as, room_stays, used_within, room_small, too_many, fits}
-use Rattle.dimacs.specs.Formed.{Formed}
-use Rattle.meaning.specs.Text.{lines, headed}
-use Rattle.meaning.specs.Limits.{small}
-use Rattle.meaning.specs.declared.TextAnswer.TheVariants.{Words}
-use lib.ListN.{length}
+use Rattle.dimacs.proofs.Whole.{room_stays, used_within, room_small, too_many, fits}
 use native.Mathlib.Omega.{arith}
 use Rattle.dimacs.proofs.read_by.Goals as goal
 

@@ -2,7 +2,7 @@ use Rattle.dimacs.specs.Clause.{Spliced}
 use mathlib.Core.Path.{subst}
 use lib.ListN.{set}
 use Prim.Native.Nat.{ℕ}
-use Rattle.dimacs.proofs.Buffers.{moved_none, moved_more, moved_set}
+use Rattle.dimacs.proofs.Buffers.{moved_more, moved_set}
 use Rattle.words.proofs.Words.{back}
 use native.Mathlib.Omega.{arith}
 use mathlib.Core.Path.{◌≡◌}

@@ -1,9 +1,8 @@
-use mathlib.Core.Path.{refl, sym, ◌∙◌}
+use mathlib.Core.Path.{refl}
 use Prim.Native.Nat.{◌-◌}
 use native.Mathlib.Omega.{arith}
 use Rattle.meaning.specs.Limits.{small}
-use Rattle.meaning.specs.Text.{dimacs}
-use Rattle.lines.proofs.Program.{as_printed, words_within, program_words, program_fault}
+use Rattle.lines.proofs.Program.{as_printed, program_words, program_fault}
 use Rattle.lines.proofs.print.Goals as goal
 
 pub returns-in-Words : goal.returns-in-Words

@@ -1,7 +1,7 @@
 use mathlib.Core.Path.{refl}
 use Prim.Native.Nat.{◌-◌, ◌≤◌}
 use native.Mathlib.Omega.{arith}
-use lib.ListN.{length, length-take}
+use lib.ListN.{length}
 use Rattle.meaning.specs.Limits.{small}
 use Rattle.lines.proofs.Program.{as_rendered, held_within, check_lines_are}
 use Rattle.lines.proofs.print_check.Goals as goal

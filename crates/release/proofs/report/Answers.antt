@@ -1,7 +1,6 @@
 use mathlib.Core.Path.{◌≡◌, sym, ◌∙◌}
 use mathlib.Core.Bool.{true, false}
 use Rattle.release.specs.Report.{well_formed, report_of}
-use Rattle.release.proofs.Turn.{formed_few, formed_within}
 use Rattle.release.proofs.report.Goals as goal
 
 pub returns-then-well_formed : goal.returns-then-well_formed

@@ -1,5 +1,5 @@
 use native.Mathlib.Omega.{arith}
-use Rattle.release.proofs.Turn.{over_none, over_few, over_more, over_refused, over_all}
+use Rattle.release.proofs.Turn.{over_few, over_more, over_refused, over_all}
 use Rattle.release.proofs.report_over.Goals as goal
 
 pub add-requires : goal.add-requires

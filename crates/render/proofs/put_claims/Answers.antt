@@ -1,10 +1,9 @@
-use native.Mathlib.Nat.{add-zero}
-use mathlib.Core.Path.{◌≡◌, refl, sym, ap, subst, ◌∙◌}
+use mathlib.Core.Path.{◌≡◌, sym, ap, ◌∙◌}
 use mathlib.Core.List.{List, ◌++◌}
 use Prim.Native.Nat.{ℕ, ◌+◌, ◌-◌}
 use native.Mathlib.Omega.{arith}
 use lib.ListN.{length, take, get_or, length-append}
-use lib.Seq.{sets, length-sets, take-length}
+use lib.Seq.{sets, length-sets}
 use Rattle.render.specs.Shown.{claim_line, claim_lines}
 use Rattle.render.proofs.Lines.{last_claim_line}
 use Rattle.render.proofs.Sets.{part_left}

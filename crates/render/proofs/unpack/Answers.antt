@@ -1,13 +1,11 @@
-use mir.Syntax.{w16}
-use mathlib.Core.Path.{◌≡◌, refl, sym, ap, ◌∙◌}
-use Prim.Native.Nat.{◌+◌, ◌*◌, ◌/◌, ◌≤◌, ◌<◌}
+use mathlib.Core.Path.{◌≡◌, sym, ap, ◌∙◌}
+use Prim.Native.Nat.{◌/◌, ◌≤◌}
 use native.Mathlib.Omega.{arith}
-use lib.ListN.{length, take, get_or, length-set}
+use lib.ListN.{length, take}
 use lib.Seq.{sets, take_at}
-use mir.Facts.{to_z-of_z}
 use Rattle.meaning.specs.Lines.{words_of}
 use Rattle.meaning.specs.Promise.{over}
-use Rattle.render.proofs.Words.{word_is, word_turn, no_word, word_count}
+use Rattle.render.proofs.Words.{no_word, word_count}
 use Rattle.render.proofs.Sets.{sets_over}
 use Rattle.render.proofs.unpack.Goals as goal
 

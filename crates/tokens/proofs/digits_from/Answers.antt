@@ -1,4 +1,4 @@
-use Rattle.tokens.proofs.Numbers.{running_none, running_more, value_small, digit_told, digit_not}
+use Rattle.tokens.proofs.Numbers.{running_more, digit_told, digit_not}
 use native.Mathlib.Omega.{arith}
 use Rattle.tokens.proofs.digits_from.Goals as goal
 

@@ -1,4 +1,4 @@
-use Rattle.tokens.proofs.First.{lines_all, ends_at, ends_one, found, at_end, next_line, ends_onward, no_line}
+use Rattle.tokens.proofs.First.{lines_all, ends_at, ends_one, found, at_end, next_line, ends_onward}
 use native.Mathlib.Omega.{arith}
 use Rattle.tokens.proofs.first_line.Goals as goal
 

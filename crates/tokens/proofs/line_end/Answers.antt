@@ -1,5 +1,5 @@
 use Rattle.tokens.proofs.Places.{line_stops, line_goes, line_ends}
-use mathlib.Core.Path.{refl, sym, ◌∙◌}
+use mathlib.Core.Path.{sym, ◌∙◌}
 use Rattle.tokens.proofs.line_end.Goals as goal
 
 pub returns-then-text-at-eq10 : goal.returns-then-text-at-eq10

@@ -2,7 +2,7 @@ use Rattle.tokens.proofs.Places.{gap_line_end, gap_blank}
 use Rattle.tokens.specs.Scan.{parts}
 use borrow.Author.Tests.{ne_eqb}
 use native.Mathlib.Omega.{arith}
-use mathlib.Core.Path.{refl, sym, ◌∙◌}
+use mathlib.Core.Path.{sym, ◌∙◌}
 use Rattle.tokens.proofs.next.Goals as goal
 
 pub loop-at-preserved-then-b-eq10 : goal.loop-at-preserved-then-b-eq10

@@ -1,7 +1,5 @@
-use Rattle.tokens.proofs.Numbers.{digits_at, digits_within, signed_not, signed_is, minus_zero}
-use Rattle.tokens.specs.Numbers.{NumeralRead}
-use Rattle.tokens.specs.declared.Numeral.{Numeral}
-use mathlib.Core.Path.{◌≡◌, sym, subst}
+use Rattle.tokens.proofs.Numbers.{signed_not, signed_is, minus_zero}
+use mathlib.Core.Path.{sym}
 use Rattle.tokens.proofs.number_at.Goals as goal
 
 pub returns-in_default : goal.returns-in_default

@@ -1,5 +1,4 @@
-use Rattle.tokens.proofs.Places.{stands_inside, past_one, past_none}
-use native.Mathlib.Omega.{arith}
+use Rattle.tokens.proofs.Places.{past_one, past_none}
 use mathlib.Core.Path.{sym, ◌∙◌}
 use Rattle.tokens.proofs.past_comment.Goals as goal
 

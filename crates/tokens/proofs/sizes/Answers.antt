@@ -1,7 +1,4 @@
 use Rattle.tokens.proofs.Heads.{read_within, sizes_first, sizes_second, sizes_more, sizes_n, sizes_m, sizes_ok}
-use Rattle.tokens.specs.Numbers.{NumeralRead}
-use Rattle.tokens.specs.declared.Numeral.TheVariants as numerals
-use mathlib.Core.Path.{subst}
 use Rattle.tokens.proofs.sizes.Goals as goal
 
 pub returns-in_default : goal.returns-in_default
