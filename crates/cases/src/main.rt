@@ -10,21 +10,34 @@
 // number and from where to where it goes in the trace, three bytes each. Places that are not listed must hold what they held before the call.
 #![tactic(auto)]
 
-ghost use Rattle.std.specs.Prelude.{◌+◌, ◌≤◌, length};
+ghost use Rattle.std.specs.Prelude.{◌≤◌, length};
 
 use std::fs::File;
-use std::io;
 use std::io::{Read, Write};
+use std::{array, io};
 
-// The kinds of cases; the third are entries. A check and an entry have the words of a formula and a trace, a text those that are expected.
-const CHECK: usize = 1;
+// The kinds of cases. A check and an entry have the words of a formula and a trace, a text those that are expected.
+#[derive(Clone, Copy)]
+enum Kind {
+    Check,
+    Text,
+    Entry,
+}
 
-const TEXT: usize = 2;
+impl From<usize> for Kind {
+    fn from(kind: usize) -> Kind {
+        match kind {
+            1 => Kind::Check,
+            2 => Kind::Text,
+            _ => Kind::Entry,
+        }
+    }
+}
 
 #[derive(Clone, Copy)]
 struct Case {
     // Its kind, and the number that is to be returned; an entry has 30.
-    kind: usize,
+    kind: Kind,
     number: usize,
     // Where its parts begin in the window, and where the last ends.
     start: usize,
@@ -70,60 +83,26 @@ const ANSWER_BEFORE: u64 = 11936128515503554560;
 
 // ---- bytes
 
-fn wide(b: u8) -> usize
-    ensures { result ≤ 255 }
-{
-    b as usize
+// What stands from one place to another; nothing if there are no such places.
+fn part<T>(all: &[T], from: usize, to: usize) -> &[T] {
+    all.get(from..to).unwrap_or(&[])
 }
 
-// The byte at a place, 0 beyond the end.
-fn get(bytes: &[u8], at: usize) -> u8 {
-    if at < bytes.len() { bytes[at] } else { 0 }
+// The number of so many bytes from a place on, low byte first; bytes beyond the end count as 0.
+fn number(bytes: &[u8], at: usize, count: usize) -> usize {
+    let end = bytes.len().min(at.saturating_add(count));
+    part(bytes, at, end)
+        .iter()
+        .rev()
+        .fold(0, |number, byte| (number << 8) | usize::from(*byte))
 }
 
-// The number of two bytes, low byte first.
-fn two(bytes: &[u8], at: usize) -> usize
-    requires { at ≤ 1000000 }
-    ensures { result ≤ 65535 }
-{
-    wide(get(bytes, at)) + 256 * wide(get(bytes, at + 1))
-}
-
-// The number of three bytes.
-fn three(bytes: &[u8], at: usize) -> usize
-    requires { at ≤ 1000000 }
-    ensures { result ≤ 16777215 }
-{
-    two(bytes, at) + 65536 * wide(get(bytes, at + 2))
-}
-
-// The number of eight bytes.
-fn eight(bytes: &[u8], at: usize) -> u64
-    requires { at ≤ 10000 }
-{
-    let low = three(bytes, at) + 16777216 * three(bytes, at + 3);
-    (low + 281474976710656 * two(bytes, at + 6)) as u64
-}
-
-// The bytes from one place to another; none if there are no such places.
-fn part<'a>(bytes: &'a [u8], from: usize, to: usize) -> &'a [u8] {
-    if to < from {
-        return &bytes[..0];
-    }
-    if bytes.len() < to {
-        return &bytes[..0];
-    }
-    &bytes[from..to]
+// The number of three bytes that stands behind so many others.
+fn three(bytes: &[u8], others: usize) -> usize {
+    number(bytes, others.saturating_mul(3), 3)
 }
 
 // ---- the window
-
-fn least(a: usize, b: usize) -> usize
-    ensures upper_bound { result ≤ a }
-    ensures upper_bound_2 { result ≤ b }
-{
-    if a < b { a } else { b }
-}
 
 // So far from a place on, and no further than the end.
 fn ahead(at: usize, count: usize, end: usize) -> usize
@@ -131,7 +110,7 @@ fn ahead(at: usize, count: usize, end: usize) -> usize
     ensures lower_bound { at ≤ result }
     ensures upper_bound { result ≤ end }
 {
-    if end - at < count { end } else { at + count }
+    at + count.min(end - at)
 }
 
 // Copies bytes of the window from a place to a later one, up to where that ends.
@@ -139,12 +118,9 @@ fn again(window: &mut [u8], from: usize, to: usize, end: usize)
     requires from_le_to { from ≤ to }
     requires end_in_bounds { end ≤ length window.old }
 {
-    let mut source = from;
-    let mut at = to;
-    while at < end {
-        window[at] = window[source];
-        source = source + 1;
-        at = at + 1;
+    // An index: a copy may reach what it wrote itself.
+    for at in to..end {
+        window[at] = window[at - (to - from)];
     }
 }
 
@@ -156,19 +132,15 @@ struct Run {
     source: usize,
 }
 
-fn run_of(b: &[u8]) -> Run {
-    Run {
-        plain: two(b, 0),
-        copied: two(b, 2),
-        source: three(b, 4),
-    }
-}
-
 // The numbers of the next run; all 0 where the file ends.
 fn next_run(file: &mut impl Read) -> Run {
     let mut bytes = [0u8; RUN_BYTES];
     files::read_full(file, &mut bytes);
-    run_of(&bytes)
+    Run {
+        plain: number(&bytes, 0, 2),
+        copied: number(&bytes, 2, 2),
+        source: number(&bytes, 4, 3),
+    }
 }
 
 // The next run of the file, from a place of the window on; answers where it ends.
@@ -180,13 +152,14 @@ fn read_run(file: &mut impl Read, window: &mut [u8], at: usize) -> usize
     let middle = ahead(at, run.plain, window.len());
     let end = ahead(middle, run.copied, window.len());
     files::read_full(file, &mut window[at..middle]);
-    again(window, least(run.source, middle), middle, end);
+    again(window, run.source.min(middle), middle, end);
     end
 }
 
 // Fills a part of the window by the next runs of the file; they stop short where the file ends.
 fn unpack(file: &mut impl Read, window: &mut [u8], start: usize, end: usize) {
-    let mut at = least(start, window.len());
+    // A loop: where a run ends shows only when it is read.
+    let mut at = start.min(window.len());
     while at < end {
         let next = read_run(file, window, at);
         if next <= at {
@@ -199,84 +172,41 @@ fn unpack(file: &mut impl Read, window: &mut [u8], start: usize, end: usize) {
 // ---- words
 
 // A word room before the call.
-fn word_room() -> [i16; 65536] {
+fn word_room() -> [i16; WORDS] {
     [WORD_BEFORE; WORDS]
 }
 
 // The words of a part, all low bytes first, and then what a room holds before the call.
-fn words_of(part: &[u8]) -> [i16; 65536] {
-    let mut words = [WORD_BEFORE; WORDS];
-    let half = part.len() / 2;
-    let end = least(half, WORDS);
-    let mut i: usize = 0;
-    while i < end {
-        words[i] = words::word_of(get(part, i), get(part, half + i));
-        i = i + 1;
-    }
-    words
-}
-
-// The words from one place to another; none if there are no such places.
-fn words_part<'a>(words: &'a [i16], from: usize, to: usize) -> &'a [i16] {
-    if to < from {
-        return &words[..0];
-    }
-    if words.len() < to {
-        return &words[..0];
-    }
-    &words[from..to]
-}
-
-// Two parts have the same words.
-fn same_words(us: &[i16], ws: &[i16]) -> bool {
-    if us.len() != ws.len() {
-        return false;
-    }
-    let mut i: usize = 0;
-    while i < us.len() {
-        if words::same_at(us, i, ws, i) {
-            i = i + 1;
-        } else {
-            return false;
-        }
-    }
-    true
+fn words_of(part: &[u8]) -> [i16; WORDS] {
+    let (low, high) = part.split_at(part.len() / 2);
+    array::from_fn(|i| match (low.get(i), high.get(i)) {
+        (Some(low), Some(high)) => words::word_of(*low, *high),
+        _ => WORD_BEFORE,
+    })
 }
 
 // ---- places
 
 // Places as they are before the call.
-fn places(first: u64) -> [u64; 1024] {
-    let mut all = [0u64; PLACES];
-    let mut i: usize = 0;
-    while i < PLACES {
-        all[i] = first.wrapping_add(i as u64);
-        i = i + 1;
-    }
-    all
+fn places(first: u64) -> [u64; PLACES] {
+    array::from_fn(|i| first.wrapping_add(i as u64))
 }
 
 // What place i holds after the call: the number that is written there, or what it held.
-fn after(first: u64, written: &[u8], i: usize) -> u64
-    requires { i ≤ 1024 }
-{
-    if 8 * i < written.len() {
-        return eight(written, 8 * i);
+fn after(first: u64, written: &[u8], i: usize) -> u64 {
+    let at = i.saturating_mul(8);
+    if at < written.len() {
+        number(written, at, 8) as u64
+    } else {
+        first.wrapping_add(i as u64)
     }
-    first.wrapping_add(i as u64)
 }
 
 // All places hold what is expected.
-fn places_right(all: &[u64; 1024], first: u64, written: &[u8]) -> bool {
-    let mut i: usize = 0;
-    while i < PLACES {
-        if all[i] == after(first, written, i) {
-            i = i + 1;
-        } else {
-            return false;
-        }
-    }
-    true
+fn places_right(all: &[u64; PLACES], first: u64, written: &[u8]) -> bool {
+    all.iter()
+        .enumerate()
+        .all(|(i, found)| *found == after(first, written, i))
 }
 
 // ---- the calls
@@ -295,118 +225,84 @@ fn read_right(
     words_after: &[i16],
 ) -> bool {
     let returned = mice::mice_read(text, room, answer);
-    (returned == number as u64) & same_words(room, words_after)
+    returned == number as u64 && &*room == words_after
 }
 
-// A check with so many places of a count room and an answer slice, the number it returns and what they hold afterwards.
+// A check, the number it returns and what its count room and answer slice hold afterwards.
 fn check_right(
+    case: &Case,
     formula: &[i16],
     trace: &[i16],
-    count_places: usize,
-    answer_places: usize,
-    number: usize,
     answer_after: &[u8],
     counts_after: &[u8],
 ) -> bool {
     let mut counts = places(COUNT_BEFORE);
     let mut answer = places(ANSWER_BEFORE);
-    let count_end = least(count_places, PLACES);
-    let answer_end = least(answer_places, PLACES);
     let returned = check(
         formula,
         trace,
-        &mut counts[0..count_end],
-        &mut answer[0..answer_end],
+        &mut counts[..case.room.min(PLACES)],
+        &mut answer[..case.answer.min(PLACES)],
     );
-    (returned == number as u64)
-        & places_right(&counts, COUNT_BEFORE, counts_after)
-        & places_right(&answer, ANSWER_BEFORE, answer_after)
+    returned == case.number as u64
+        && places_right(&counts, COUNT_BEFORE, counts_after)
+        && places_right(&answer, ANSWER_BEFORE, answer_after)
 }
 
-// A text with so many places of a word room and an answer slice, the number its reading returns and what they hold afterwards.
-fn text_right(
-    text: &[u8],
-    word_places: usize,
-    answer_places: usize,
-    number: usize,
-    answer_after: &[u8],
-    words_after: &[i16],
-) -> bool {
+// A text, the number its reading returns and what its word room and answer slice hold afterwards.
+fn text_right(case: &Case, text: &[u8], answer_after: &[u8], words_after: &[i16]) -> bool {
     let mut words = word_room();
     let mut answer = places(ANSWER_BEFORE);
-    let word_end = least(word_places, WORDS);
-    let answer_end = least(answer_places, PLACES);
     let right = read_right(
         text,
-        &mut words[0..word_end],
-        &mut answer[0..answer_end],
-        number,
+        &mut words[..case.room.min(WORDS)],
+        &mut answer[..case.answer.min(PLACES)],
+        case.number,
         words_after,
     );
-    right & places_right(&answer, ANSWER_BEFORE, answer_after)
+    right && places_right(&answer, ANSWER_BEFORE, answer_after)
 }
 
 // An entry's words and the part of the trace that is expected.
 fn entry_right(formula: &[i16], trace: &[i16], asked: &[u8]) -> bool {
-    let expected = words_part(trace, three(asked, 6), three(asked, 9));
-    same_words(
-        trace::entry(formula, trace, three(asked, 0), three(asked, 3)),
-        expected,
-    )
+    trace::entry(formula, trace, three(asked, 0), three(asked, 1))
+        == part(trace, three(asked, 2), three(asked, 3))
 }
 
 // The unpacked case is as expected.
-fn case_right(window: &[u8], case: Case) -> bool {
+fn case_right(window: &[u8], case: &Case) -> bool {
     let words = words_of(part(window, case.words_at, case.answer_at));
     let answer_after = part(window, case.answer_at, case.rest_at);
     let rest = part(window, case.rest_at, case.end);
-    if case.kind == TEXT {
-        let words_after = words_part(&words, 0, case.room);
-        return text_right(
-            rest,
-            case.room,
-            case.answer,
-            case.number,
-            answer_after,
-            words_after,
-        );
+    let formula = part(&words, 0, case.formula);
+    let trace = part(&words, case.formula, case.words);
+    match case.kind {
+        Kind::Check => check_right(case, formula, trace, answer_after, rest),
+        Kind::Text => text_right(case, rest, answer_after, part(&words, 0, case.room)),
+        Kind::Entry => entry_right(formula, trace, rest),
     }
-    let formula = words_part(&words, 0, case.formula);
-    let trace = words_part(&words, case.formula, case.words);
-    if case.kind == CHECK {
-        return check_right(
-            formula,
-            trace,
-            case.room,
-            case.answer,
-            case.number,
-            answer_after,
-            rest,
-        );
-    }
-    entry_right(formula, trace, rest)
 }
 
 // ---- all cases
 
-fn case_of(b: &[u8]) -> Case {
+fn case_of(bytes: &[u8]) -> Case {
     Case {
-        kind: three(b, 0),
-        number: three(b, 3),
-        start: three(b, 6),
-        words_at: three(b, 9),
-        answer_at: three(b, 12),
-        rest_at: three(b, 15),
-        end: three(b, 18),
-        formula: three(b, 21),
-        words: three(b, 24),
-        room: three(b, 27),
-        answer: three(b, 30),
+        kind: Kind::from(three(bytes, 0)),
+        number: three(bytes, 1),
+        start: three(bytes, 2),
+        words_at: three(bytes, 3),
+        answer_at: three(bytes, 4),
+        rest_at: three(bytes, 5),
+        end: three(bytes, 6),
+        formula: three(bytes, 7),
+        words: three(bytes, 8),
+        room: three(bytes, 9),
+        answer: three(bytes, 10),
     }
 }
 
 // Runs the unpacked case; answers where it is counted.
-fn run_case(rt: &impl Print, window: &[u8], case: Case) -> io::Result<usize> {
+fn run_case(rt: &impl Print, window: &[u8], case: &Case) -> io::Result<usize> {
     if case_right(window, case) {
         return Ok(case.number);
     }
@@ -415,19 +311,19 @@ fn run_case(rt: &impl Print, window: &[u8], case: Case) -> io::Result<usize> {
     Ok(WRONG.wrapping_add(case.number))
 }
 
-// Runs the next case of the file; answers where it is counted, or beyond the tally.
-fn run_next(rt: &impl Print, file: &mut impl Read, window: &mut [u8]) -> io::Result<usize> {
+// Runs the next case of the file; answers where it is counted, and nothing where the file ends.
+fn run_next(rt: &impl Print, file: &mut impl Read, window: &mut [u8]) -> io::Result<Option<usize>> {
     let mut bytes = [0u8; CASE_BYTES];
     if files::read_full(file, &mut bytes) < CASE_BYTES {
-        return Ok(TALLY);
+        return Ok(None);
     }
     let case = case_of(&bytes);
     unpack(file, window, case.start, case.end);
-    run_case(rt, window, case)
+    Ok(Some(run_case(rt, window, &case)?))
 }
 
 // How many cases were right and how many wrong.
-#[derive(Clone, Copy)]
+#[derive(Clone, Copy, Default)]
 struct Sum {
     right: usize,
     wrong: usize,
@@ -438,40 +334,43 @@ fn run_all(
     rt: &impl Print,
     file: &mut impl Read,
     window: &mut [u8],
-    tally: &mut [u64; 128],
+    tally: &mut [u64; TALLY],
 ) -> io::Result<Sum> {
-    let mut wrong: usize = 0;
-    let mut k: usize = 0;
-    while k < CASES {
-        let at = run_next(rt, file, window)?;
-        if TALLY <= at {
-            return Ok(Sum {
-                right: k - wrong,
-                wrong: wrong,
-            });
+    let mut wrong = 0;
+    for k in 0..CASES {
+        match run_next(rt, file, window)? {
+            Some(at) if at < TALLY => {
+                tally[at] = tally[at].wrapping_add(1);
+                wrong += at / WRONG;
+            }
+            _ => {
+                return Ok(Sum {
+                    right: k - wrong,
+                    wrong,
+                });
+            }
         }
-        tally[at] = tally[at].wrapping_add(1);
-        wrong = wrong + at / WRONG;
-        k = k + 1;
     }
-    Ok(Sum { right: 0, wrong: k })
+    Ok(Sum {
+        right: 0,
+        wrong: CASES,
+    })
 }
 
 // A line for a number; none if there were no cases.
 fn say_number(rt: &impl Print, number: usize, right: u64, wrong: u64) -> io::Result<()> {
-    if (right == 0) & (wrong == 0) {
+    if right == 0 && wrong == 0 {
         return Ok(());
     }
     println!(rt; "refusal {number}: {right} right, {wrong} wrong")
 }
 
 // A line for each number.
-fn say_all(rt: &impl Print, tally: &[u64; 128]) -> io::Result<()> {
+fn say_all(rt: &impl Print, tally: &[u64; TALLY]) -> io::Result<()> {
     println!(rt; "cases by refusal number: 0 is accepted, 30 an entry")?;
-    let mut number: usize = 0;
-    while number < NUMBERS {
-        say_number(rt, number, tally[number], tally[WRONG + number])?;
-        number = number + 1;
+    let (right, wrong) = tally.split_at(WRONG);
+    for (number, (right, wrong)) in right.iter().zip(wrong).enumerate().take(NUMBERS) {
+        say_number(rt, number, *right, *wrong)?;
     }
     Ok(())
 }
@@ -481,7 +380,8 @@ fn say_end(rt: &impl Print, sum: Sum) -> io::Result<()> {
     println!(rt; "all: {} right, {} wrong", sum.right, sum.wrong)
 }
 
-fn cleared() -> [u8; 262144] {
+// The window before the first case. A function's answer is lent at less cost in the proof than a local array.
+fn cleared() -> [u8; WINDOW] {
     [0u8; WINDOW]
 }
 
@@ -490,7 +390,7 @@ fn main(rt: HostRuntime) -> io::Result<()> {
     let mut tally = [0u64; TALLY];
     let sum = match File::open(&rt, "cases") {
         Ok(mut file) => run_all(&rt, &mut file, &mut window, &mut tally)?,
-        Err(_) => Sum { right: 0, wrong: 0 },
+        Err(_) => Sum::default(),
     };
     say_all(&rt, &tally)?;
     say_end(&rt, sum)

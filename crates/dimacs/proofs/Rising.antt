@@ -1,23 +1,25 @@
 -- Where a literal belongs in a clause whose variables rise. Assumes nothing.
 use mathlib.Core.Path.{◌≡◌, refl, sym, ap, ◌∙◌}
-use mathlib.Core.Bool.{Bool, true, false, ◌&&◌, ◌||◌, true≢false}
+use mathlib.Core.Bool.{Bool, true, false, ◌||◌, true≢false}
 use mathlib.Core.List.{List, [], ◌∷◌}
-use Prim.Native.Nat.{ℕ, zero, suc, ◌+◌, ◌-◌, ◌<◌, ◌≤◌}
+use Prim.Native.Nat.{ℕ, zero, suc, ◌+◌, ◌<◌, ◌≤◌}
 use native.Mathlib.Omega.{arith}
-use borrow.Author.Tests.{lt-ltb, le-ltb, ne_eqb, eq-eqb, eqb-true, ltb-true}
+use borrow.Author.Tests.{lt-ltb, le-ltb, ne_eqb, eq-eqb}
 use lib.Dec.{T, eqb, ltb, ltb→lt}
 use lib.IntN.{ℤ, pos}
-use lib.ListN.{length, take}
-use lib.Seq.{get_or-take, length-take-le}
+use lib.ListN.{length, take, length-take}
 use Rattle.meaning.specs.Meaning.{Literal, Clause, var, named}
 use Rattle.meaning.specs.Text.{insert}
 use Rattle.meaning.proofs.Formed.{rises_from}
 use Rattle.meaning.proofs.Logic.{and_l, and_r}
 use Rattle.meaning.proofs.Dimacs.{insert_rises}
-use Rattle.words.proofs.Words.{nat_abs_neg}
-use Rattle.tokens.specs.Numbers.{literal_of}
-use Rattle.tokens.proofs.Places.{and_true_l, and_true_r}
-use Rattle.dimacs.specs.Clause.{var_at, Spot, spliced, Spliced, Begun, Added}
+use Rattle.dimacs.specs.Clause.{var_at, spliced, Spliced, Begun, Added}
+use Rattle.std.specs.List.{HoldsAt}
+use Rattle.std.specs.List.Sorted.{IsNonDecreasingBy, IsPartitionPoint}
+use Rattle.std.specs.Ordering.{nat_cmp, ordering_index}
+use Rattle.std.proofs.Common.{Ordering, Less, Equal, Greater}
+use Rattle.std.proofs.lemmas.Bool.Decides.{nat_tests}
+use Rattle.std.proofs.lemmas.List.Sorted.{IsNonDecreasingBy-from_default}
 
 -- ---- rising variables
 
@@ -66,56 +68,66 @@ module _ (z : Literal) where
 
 -- ---- adding a literal
 
-pub var_literal : (minus : Bool) (v : ℕ) → var (literal_of minus v) ≡ v
-var_literal true v = nat_abs_neg (pos v)
-var_literal false v = refl
-
 false_true : {X : Type 0} → false ≡ true → X
 false_true e = absurd (true≢false (sym e))
 
-module _ {C : List ℤ} {k v at : ℕ} (minus : Bool) (low : 0 < v) (b : Begun C k) (s : Spot C k v at) where
-  abbrev z : Literal
-  z = literal_of minus v
+-- ---- what a binary search of them answers
 
-  has : length (take k C) ≡ k
-  has = length-take-le k C (omega (arith, b.long, b.few))
+rises_le : (A : Clause) (last i j : ℕ) → T (rises_from last A) → i ≤ j → j < length A → var_at A i ≤ var_at A j
+rises_le [] last i j r h l = absurd (omega arith)
+rises_le (a ∷ A) last zero zero r h l = omega arith
+rises_le (a ∷ A) last zero (suc j) r h l = omega (arith, rises_above A (var a) j (and_r (ltb last (var a)) (rises_from (var a) A) r) (omega arith))
+rises_le (a ∷ A) last (suc i) zero r h l = absurd (omega arith)
+rises_le (a ∷ A) last (suc i) (suc j) r h l = rises_le A (var a) i j (and_r (ltb last (var a)) (rises_from (var a) A) r) (omega arith) (omega arith)
 
-  inside : (i : ℕ) → i < k → var_at (take k C) i ≡ var_at C i
-  inside i h = ap var (get_or-take k C i (pos 0) h)
+index_rises : (a b v : ℕ) → a ≤ b → ordering_index (nat_cmp a v) ≤ ordering_index (nat_cmp b v)
+index_rises a b v h = grind (arith, nat_tests)
 
-  module _ {r : Bool} (t : r ≡ (ltb 0 at && eqb (var_at C (at - 1)) v)) where
-    pub twice : r ≡ true → Added C k z false C
-    twice e =
-        let i = sym t ∙ e in
-        let p : 0 < at = ltb-true 0 at (and_true_l (ltb 0 at) (eqb (var_at C (at - 1)) v) i) in
-        let q : var_at C (at - 1) ≡ v = eqb-true (var_at C (at - 1)) v (and_true_r (ltb 0 at) (eqb (var_at C (at - 1)) v) i) in
-        let n : named (take k C) (var z) ≡ true = rw (var_literal minus v) (named_at (take k C) v (at - 1) (omega (arith, has, s.within)) (inside (at - 1) (omega (arith, s.within)) ∙ q)) in
-        record { done_is = rw n; begun = false_true; literals = false_true }
+is_less : (a v : ℕ) → nat_cmp a v ≡ Less → a < v
+is_less a v e = grind (arith, nat_tests)
 
-    module _ (e : r ≡ false) where
-      lower : (q : ℕ) → at ≡ suc q → var_at (take k C) q < var z
-      lower q i =
-          let j : at - 1 ≡ q = omega arith in
-          let n : var_at C q ≡ v → ⊥ = λ x. true≢false (sym (t ∙ rw (lt-ltb 0 at (omega arith), j, eq-eqb (var_at C q) v x)) ∙ e) in
-          let l : var_at C q ≤ v = rw j at (s.below (omega arith)) in
-          rw (inside q (omega (arith, s.within)), var_literal minus v) (omega (arith, n, l))
+is_equal : (a v : ℕ) → nat_cmp a v ≡ Equal → a ≡ v
+is_equal a v e = grind (arith, nat_tests)
 
-      placed : (insert z (take k C) ≡ spliced at z (take k C)) × (named (take k C) (var z) ≡ false)
-      placed = in_place z (take k C) 0 at b.rises (omega (arith, has, s.within)) lower (λ h. let i : at < k = omega (arith, has, h) in rw (inside at i, var_literal minus v) (s.above i))
+is_greater : (a v : ℕ) → nat_cmp a v ≡ Greater → v < a
+is_greater a v e = grind (arith, nat_tests)
 
-      pub full : k ≡ 64 → Added C k z false C
-      full h = record { done_is = rw (placed.1, le-ltb k 64 (omega arith)); begun = false_true; literals = false_true }
+module _ {C : List ℤ} {k : ℕ} (z : Literal) (low : 0 < var z) (b : Begun C k) where
+  -- a place among the literals, where there are fewer than 64
+  pub within_all : {at : ℕ} → at ≤ length (take k C) → (k ≡ 64 → ⊥) → (k < length C) × (at ≤ k)
+  within_all h n = (omega (arith, b.long, b.few, n), omega (arith, length-take k C))
 
-      pub put : (k ≡ 64 → ⊥) → {D : List ℤ} → Spliced C k at z D → Added C k z true D
-      put h {D} m =
-          let l : k < 64 = omega (arith, b.few, h) in
-          let q : take (k + 1) D ≡ insert z (take k C) = m.literals ∙ sym placed.0 in
-          record {
-            done_is = rw (placed.1, lt-ltb k 64 l);
-            begun = λ _. record {
-              long = m.as_long ∙ b.long;
-              few = omega arith;
-              rises = rw q (insert_rises z (take k C) 0 (rw (var_literal minus v) low) (λ n. rw placed.1 at n) b.rises);
-            };
-            literals = λ _. q;
-          }
+  abbrev by : ℤ → Ordering
+  by y = nat_cmp (var y) (var z)
+
+  pub searchable : IsNonDecreasingBy (λ y. ordering_index (by y)) (take k C)
+  searchable = IsNonDecreasingBy-from_default (λ y. ordering_index (by y)) (take k C) (pos 0) (λ i j h l. index_rises (var_at (take k C) i) (var_at (take k C) j) (var z) (rises_le (take k C) 0 i j b.rises h l))
+
+  pub twice : {at : ℕ} → at < length (take k C) → HoldsAt (λ y. by y ≡ Equal) (take k C) at → Added C k z false C
+  twice {at} h e =
+      let n : named (take k C) (var z) ≡ true = named_at (take k C) (var z) at h (is_equal (var_at (take k C) at) (var z) (e (pos 0))) in
+      record { done_is = rw n; begun = false_true; literals = false_true }
+
+  module _ {at : ℕ} (within : at ≤ length (take k C)) (p : IsPartitionPoint (λ y. by y ≡ Less) (λ y. by y ≡ Greater) (take k C) at) where
+    placed : (insert z (take k C) ≡ spliced at z (take k C)) × (named (take k C) (var z) ≡ false)
+    placed =
+        in_place z (take k C) 0 at b.rises within
+        (λ q i. is_less (var_at (take k C) q) (var z) (p.0 q (pos 0) (omega arith) (omega arith)))
+        (λ h. is_greater (var_at (take k C) at) (var z) (p.1 at (pos 0) (omega arith) h))
+
+    pub full : k ≡ 64 → Added C k z false C
+    full h = record { done_is = rw (placed.1, le-ltb k 64 (omega arith)); begun = false_true; literals = false_true }
+
+    pub put : (k ≡ 64 → ⊥) → {D : List ℤ} → Spliced C k at z D → Added C k z true D
+    put h {D} m =
+        let l : k < 64 = omega (arith, b.few, h) in
+        let q : take (k + 1) D ≡ insert z (take k C) = m.literals ∙ sym placed.0 in
+        record {
+          done_is = rw (placed.1, lt-ltb k 64 l);
+          begun = λ _. record {
+            long = m.as_long ∙ b.long;
+            few = omega arith;
+            rises = rw q (insert_rises z (take k C) 0 low (λ n. rw placed.1 at n) b.rises);
+          };
+          literals = λ _. q;
+        }

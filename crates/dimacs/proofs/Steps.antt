@@ -3,11 +3,15 @@ use mathlib.Core.Path.{◌≡◌, refl, sym, ap, ap₂, subst, ◌∙◌}
 use mathlib.Core.Bool.{Bool, true, false, not, ◌&&◌, ◌||◌, true≢false}
 use mathlib.Core.List.{List, [], ◌∷◌, ◌++◌, map, append_assoc, append-nil}
 use mathlib.Core.Option.{none, some}
-use Prim.Native.Nat.{ℕ, ◌+◌, ◌*◌, ◌<◌, ◌≤◌}
+use Prim.Native.Nat.{ℕ, ◌+◌, ◌*◌, ◌^◌, ◌<◌, ◌≤◌}
 use native.Mathlib.Omega.{arith}
 use borrow.Author.Tests.{lt-ltb, le-ltb, le-leb, lt-leb, ne_eqb, eq-eqb, eqb-true, eqb-false}
 use lib.Dec.{eqb, ltb}
-use lib.IntN.{ℤ, pos}
+use lib.IntN.{ℤ, pos, negsuc, nat_abs}
+use lib.Signed.{mag}
+use mir.Syntax.{w16, w32}
+use mir.Val.{SFits, to_z, of_z}
+use mir.Facts.{to_z-of_z}
 use lib.ListN.{length, get_or, take, length-append}
 use lib.Seq.{length-take-le}
 use Rattle.meaning.specs.declared.TextAnswer.TheVariants.{Words, Faulty}
@@ -16,13 +20,44 @@ use Rattle.meaning.specs.Limits.{small}
 use Rattle.meaning.specs.Meaning.{Clause, Formula, var, named}
 use Rattle.meaning.specs.Form.{Cnf}
 use Rattle.meaning.specs.Text.{Text, sound, faulty, ◌>>=◌, Piece, Reading, insert, taken, faults, unless, body, whole, signed, clause_words, formula_words}
-use Rattle.tokens.specs.declared.Signed.TheVariants as signs
 use Rattle.tokens.specs.Scan.{parts, parted, word_at, tokens_from, piece, Next}
-use Rattle.tokens.specs.Numbers.{literal_of, SignedRead}
+use Rattle.tokens.specs.Numbers.{SignedRead}
+use Rattle.std.specs.Prelude as std
+use Rattle.std.specs.Option.{ok_or}
+use Rattle.tokens.proofs.Numbers.{signed_as}
 use Rattle.tokens.proofs.Places.{gap_token, gap_end, word_goes, word_within}
 use Rattle.dimacs.specs.Clause.{Begun, Added}
 use Rattle.dimacs.specs.Formed.{Closed, clauses_from, Formed}
-use Rattle.dimacs.proofs.Rising.{var_literal}
+
+-- ---- what a fault takes the place of
+
+pub ok_some : {T E : Type 0} (o : std.Option T) (e : E) {x : T} → std.Ok x ≡ ok_or o e → o ≡ std.Some x
+ok_some std.None e q = cc
+ok_some (std.Some y) e q = cc
+
+pub err_none : {T E : Type 0} (o : std.Option T) (e : E) {y : E} → std.Err y ≡ ok_or o e → (o ≡ std.None) × (y ≡ e)
+err_none std.None e q = (refl, cc)
+err_none (std.Some x) e q = cc
+
+-- ---- the size of a number that was read
+
+mag_within : (z : ℤ) → mag z ≤ nat_abs z
+mag_within (pos n) = omega arith
+mag_within (negsuc n) = omega arith
+
+pub read_fits : (z : ℤ) → nat_abs z < 2 ^ 20 → SFits w32 z
+read_fits z h = record { sfits = omega (arith, mag_within z) }
+
+pub read_size : (z : ℤ) {s : ℕ} → nat_abs z < 2 ^ 20 → s ≡ nat_abs (to_z w32 (of_z w32 z)) → s ≡ var z
+read_size z h e = e ∙ ap nat_abs (to_z-of_z (read_fits z h))
+
+-- the word of a literal
+pub read_word : (z : ℤ) → nat_abs z ≤ 512 → to_z w16 (of_z w16 (to_z w32 (of_z w32 z))) ≡ z
+read_word z h =
+    let f : SFits w16 z = record { sfits = omega (arith, mag_within z) } in
+    ap (λ y. to_z w16 (of_z w16 y)) (to_z-of_z (read_fits z (omega arith))) ∙ to_z-of_z f
+
+-- ---- one token after the other
 
 abbrev start_of : Reading
 start_of = record { ended = []; current = [] }
@@ -108,8 +143,11 @@ pub faulty_formed : {R : Text Cnf} {words : List ℤ} {number place : ℕ} → R
 faulty_formed e = rw e (record { answer_is = refl; held = tt })
 
 module _ {text : List ℕ} {n m start : ℕ} {clause words : List ℤ} {k used ended at : ℕ} {s : Reading} (g : Going text n m start clause words k used ended at s) where
+  taken_k : length (take k clause) ≡ k
+  taken_k = length-take-le k clause (omega (arith, g.begun.long, g.begun.few))
+
   has : length s.current ≡ k
-  has = ap length (sym g.current) ∙ length-take-le k clause (omega (arith, g.begun.long, g.begun.few))
+  has = ap length (sym g.current) ∙ taken_k
 
   at_fault : {number place : ℕ} → body small n m s (tokens_from text at) ≡ faulty number place → {words' : List ℤ} → Formed (clauses_from n m text start) (Faulty number place) words'
   unfolding clauses_from
@@ -142,13 +180,7 @@ module _ {text : List ℕ} {n m start : ℕ} {clause words : List ℤ} {k used e
     pub no_number : signed w ≡ none → {words' : List ℤ} → Formed (clauses_from n m text start) (Faulty 3 at) words'
     no_number e = at_fault (ap (body small n m s) (gap_token text at h (g.reached h)) ∙ not_number n m s at w (tokens_from text (at + length w)) e)
 
-    pub token_room : length text + 6 ≤ 2 * length words → used + k + 1 ≤ length words
-    token_room r = omega (arith, g.inner h)
-
-    module _ (v : ℕ) (minus : Bool) {end after : ℕ} (r : SignedRead text at (signs.Is v minus end)) (x : Next text end after) where
-      abbrev z : ℤ
-      z = literal_of minus v
-
+    module _ {z : ℤ} {end after : ℕ} (r : SignedRead text at (signed_as z end)) (x : Next text end after) where
       here : tokens_from text at ≡ piece at w ∷ tokens_from text after
       here = gap_token text at h (g.reached h) ∙ ap (λ ts. piece at w ∷ ts) (ap (tokens_from text) (sym r.1) ∙ x.same)
 
@@ -165,28 +197,27 @@ module _ {text : List ℕ} {n m start : ℕ} {clause words : List ℤ} {k used e
         below : length s.ended < m
         below = omega (arith, g.counted, g.few, e₆)
 
-        pub fault_4 : n < v → {words' : List ℤ} → Formed (clauses_from n m text start) (Faulty 4 at) words'
-        fault_4 e = at_fault (ap (body small n m s) here ∙ fails_4 n m s at w (tokens_from text after) z r.0 below (rw (var_literal minus v) e))
+        pub fault_4 : n < var z → {words' : List ℤ} → Formed (clauses_from n m text start) (Faulty 4 at) words'
+        fault_4 e = at_fault (ap (body small n m s) here ∙ fails_4 n m s at w (tokens_from text after) z r.0 below e)
 
-        module _ (e₄ : v ≤ n) where
-          in_range : var z ≤ n
-          in_range = rw (var_literal minus v) e₄
-
+        module _ (e₄ : var z ≤ n) where
           -- the clause ends
-          pub closes : v ≡ 0 → {words' : List ℤ} → Closed clause k words used words' → Going text n m start clause words' 0 (used + k + 1) (ended + 1) after (record { ended = s.ended ++ s.current ∷ []; current = [] })
-          closes e c =
-              let t : eqb (var z) 0 ≡ true = eq-eqb (var z) 0 (var_literal minus v ∙ e) in
+          pub closes : var z ≡ 0 → {words' : List ℤ} → Closed (take k clause) words used words' → Going text n m start clause words' 0 (used + k + 1) (ended + 1) after (record { ended = s.ended ++ s.current ∷ []; current = [] })
+          closes e {words'} c =
+              let t : eqb (var z) 0 ≡ true = eq-eqb (var z) 0 e in
               let q : taken s z ≡ record { ended = s.ended ++ s.current ∷ []; current = [] } = rw t in
               record {
                 written =
-                    c.written
-                    ∙ ap₂ (λ a b. a ++ pos k ∷ b) g.written g.current
+                    ap (λ j. take (used + j + 1) words') (sym taken_k)
+                    ∙ c.written
+                    ∙ ap₂ (λ a b. a ++ pos (length (take k clause)) ∷ b) g.written g.current
+                    ∙ ap (λ j. (pos n ∷ pos m ∷ flat (map clause_words s.ended)) ++ pos j ∷ s.current) taken_k
                     ∙ ap (λ l. pos n ∷ pos m ∷ l) (ap (λ j. flat (map clause_words s.ended) ++ pos j ∷ s.current) (sym has) ∙ sym (flat_snoc s.ended s.current));
                 begun = record { long = g.begun.long; few = omega arith; rises = tt };
                 current = refl;
                 counted = length-append s.ended (s.current ∷ []) ∙ ap (λ j. j + 1) g.counted;
                 few = omega (arith, below, g.counted);
-                rest = sym (ap (body small n m s) here ∙ passes n m s at w (tokens_from text after) z r.0 below in_range (rw t) ∙ ap (λ s'. body small n m s' (tokens_from text after)) q) ∙ g.rest;
+                rest = sym (ap (body small n m s) here ∙ passes n m s at w (tokens_from text after) z r.0 below e₄ (rw t) ∙ ap (λ s'. body small n m s' (tokens_from text after)) q) ∙ g.rest;
                 within = x.within;
                 reached = x.reached;
                 room = omega (arith, g.inner h, onward);
@@ -194,15 +225,15 @@ module _ {text : List ℕ} {n m start : ℕ} {clause words : List ℤ} {k used e
               }
 
           -- a literal more, or not
-          module _ (e : v ≡ 0 → ⊥) {done : Bool} {clause' : List ℤ} (d : Added clause k z done clause') where
+          module _ (e : var z ≡ 0 → ⊥) {done : Bool} {clause' : List ℤ} (d : Added clause k z done clause') where
             nonzero : eqb (var z) 0 ≡ false
-            nonzero = ne_eqb (var z) 0 (λ i. e (sym (var_literal minus v) ∙ i))
+            nonzero = ne_eqb (var z) 0 e
 
             tested : (eqb (var z) 0 || not (named s.current (var z)) && ltb (length s.current) 64) ≡ done
             tested = rw nonzero (sym (d.done_is ∙ ap₂ (λ C j. not (named C (var z)) && ltb j 64) g.current (sym has)))
 
             pub fault_5 : done ≡ false → {words' : List ℤ} → Formed (clauses_from n m text start) (Faulty 5 at) words'
-            fault_5 f = at_fault (ap (body small n m s) here ∙ fails_5 n m s at w (tokens_from text after) z r.0 below in_range (tested ∙ f))
+            fault_5 f = at_fault (ap (body small n m s) here ∙ fails_5 n m s at w (tokens_from text after) z r.0 below e₄ (tested ∙ f))
 
             pub adds : done ≡ true → Going text n m start clause' words (k + 1) used ended after (record { ended = s.ended; current = insert z s.current })
             adds f =
@@ -213,7 +244,7 @@ module _ {text : List ℕ} {n m start : ℕ} {clause words : List ℤ} {k used e
                   current = d.literals f ∙ ap (insert z) g.current;
                   counted = g.counted;
                   few = g.few;
-                  rest = sym (ap (body small n m s) here ∙ passes n m s at w (tokens_from text after) z r.0 below in_range (tested ∙ f) ∙ ap (λ s'. body small n m s' (tokens_from text after)) q) ∙ g.rest;
+                  rest = sym (ap (body small n m s) here ∙ passes n m s at w (tokens_from text after) z r.0 below e₄ (tested ∙ f) ∙ ap (λ s'. body small n m s' (tokens_from text after)) q) ∙ g.rest;
                   within = x.within;
                   reached = x.reached;
                   room = omega (arith, g.inner h, onward);
@@ -223,36 +254,25 @@ module _ {text : List ℕ} {n m start : ℕ} {clause words : List ℤ} {k used e
 -- ---- from token to token
 
 module _ {text : List ℕ} {n m start : ℕ} {clause words : List ℤ} {k used ended at : ℕ} (S : Standing text n m start clause words k used ended at) (h : at < length text) where
-  pub room_to_close : (k ≤ 64) × (k ≤ length clause) × (used + k + 1 ≤ length words)
-  room_to_close =
-      let b = S.going.begun in
-      (b.few, omega (arith, b.few, b.long), token_room S.going h S.enough)
-
-  module _ (v : ℕ) (minus : Bool) {end : ℕ} (r : SignedRead text at (signs.Is v minus end)) where
+  module _ {z : ℤ} {end : ℕ} (r : SignedRead text at (signed_as z end)) where
     pub end_within : end ≤ length text
     end_within = omega (arith, r.1, word_within text at S.going.within)
 
     module _ {after : ℕ} (x : Next text end after) where
-      pub after_onward : at < after
-      after_onward = omega (arith, onward S.going h v minus r x)
-
-      module _ (e₆ : ended ≡ m → ⊥) (e₄ : v ≤ n) where
-        pub stand_closed : v ≡ 0 → {words' : List ℤ} → Closed clause k words used words' → Standing text n m start clause words' 0 (used + k + 1) (ended + 1) after
+      module _ (e₆ : ended ≡ m → ⊥) (e₄ : var z ≤ n) where
+        pub stand_closed : var z ≡ 0 → {words' : List ℤ} → Closed (take k clause) words used words' → Standing text n m start clause words' 0 (used + k + 1) (ended + 1) after
         stand_closed e c = record {
           s = record { ended = S.s.ended ++ S.s.current ∷ []; current = [] };
-          going = closes S.going h v minus r x e₆ e₄ e c;
+          going = closes S.going h r x e₆ e₄ e c;
           few_variables = S.few_variables;
           short = S.short;
           enough = omega (arith, S.enough, c.as_long);
         }
 
-        pub may_add : (v ≡ 0 → ⊥) → (0 < v) × (v ≤ 512) × Begun clause k
-        may_add e = (omega (arith, e), omega (arith, S.few_variables), S.going.begun)
-
-        pub stand_added : (v ≡ 0 → ⊥) → {done : Bool} {clause' : List ℤ} → Added clause k (literal_of minus v) done clause' → done ≡ true → Standing text n m start clause' words (k + 1) used ended after
+        pub stand_added : (var z ≡ 0 → ⊥) → {done : Bool} {clause' : List ℤ} → Added clause k z done clause' → done ≡ true → Standing text n m start clause' words (k + 1) used ended after
         stand_added e d f = record {
-          s = record { ended = S.s.ended; current = insert (literal_of minus v) S.s.current };
-          going = adds S.going h v minus r x e₆ e₄ e d f;
+          s = record { ended = S.s.ended; current = insert z S.s.current };
+          going = adds S.going h r x e₆ e₄ e d f;
           few_variables = S.few_variables;
           short = S.short;
           enough = S.enough;

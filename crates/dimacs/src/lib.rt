@@ -1,16 +1,16 @@
 // DIMACS text to formula words.
 #![tactic(auto)]
 
-ghost use Rattle.std.specs.Prelude.{◌≡◌, ◌&&◌, ◌+◌, ◌-◌, ◌<◌, ◌≤◌, ltb, eqb, ◌∷◌, [], length, take, pos};
-ghost use Rattle.tokens.specs.Numbers.{literal_of};
+ghost use Rattle.std.specs.Prelude.{◌≡◌, ◌+◌, ◌*◌, ◌<◌, ◌≤◌, length};
 ghost use Rattle.meaning.specs.Limits.{small};
+ghost use Rattle.meaning.specs.Meaning.{var};
 ghost use Rattle.meaning.specs.Text.{lines, headed};
 ghost use Rattle.meaning.specs.Promise.{TextRead};
-ghost use Rattle.dimacs.specs.Clause.{var_at, Between, Spot, Spliced, Copied, Begun, Added};
-ghost use Rattle.dimacs.specs.Formed.{Closed, clauses_from, Roomy, Headed, Formed};
+ghost use Rattle.dimacs.specs.Clause.{Begun, Added};
+ghost use Rattle.dimacs.specs.Formed.{Closed, clauses_from, Roomy, Headed, Formed, told};
 
 use meaning::TextAnswer;
-use tokens::{Header, Signed};
+use tokens::Sizes;
 
 const TEXT_BYTES: usize = 65535;
 
@@ -20,249 +20,148 @@ const WORDS: usize = 32767;
 
 const CLAUSE_LENGTH: usize = 64;
 
+// Why a text is refused, by the number of the refusal.
+#[derive(Clone, Copy)]
+enum Reason {
+    Length = 1,
+    Header = 2,
+    Number = 3,
+    Variable = 4,
+    Literal = 5,
+    Count = 6,
+    Room = 7,
+}
+
+// Why, and at which place.
+#[derive(Clone, Copy)]
+struct Fault(Reason, usize);
+
 // ---- a clause's literals, in rising order
 
-// What literals are put in order by: the variable of the one at i.
-fn order_at(clause: &[i16], i: usize) -> usize
-    requires { i < length clause.now }
-    ensures { result ≡ var_at clause.now i }
+// One literal more, unless its variable is there already or it is the 65th; a bool, for the caller knows the place. Fixed memory: the clause
+// has k literals.
+fn add(clause: &mut [i16], k: usize, literal: i16) -> bool
+    requires { (0 < var literal) × Begun clause.old k }
+    ensures { Added clause.old k literal result clause.new }
 {
-    words::size_at(clause, i)
-}
-
-// Where a variable belongs between low and high, by halving.
-fn between(clause: &[i16], v: usize, low: usize, high: usize) -> usize
-    requires { Between clause.now v low high }
-    ensures { Spot clause.now (high + 1) v result }
-{
-    let mut lo = low;
-    let mut hi = high;
-    while lo < hi {
-        let mid = lo + (hi - lo) / 2;
-        if order_at(clause, mid) <= v {
-            lo = mid + 1;
-        } else {
-            hi = mid;
-        }
-    }
-    lo
-}
-
-// Where it belongs among the first k literals. Most texts have them in rising order, so the last one is asked first.
-fn spot(clause: &[i16], k: usize, v: usize) -> usize
-    requires { k ≤ length clause.now }
-    ensures { Spot clause.now k v result }
-{
-    if k == 0 {
-        return 0;
-    }
-    if order_at(clause, k - 1) <= v {
-        return k;
-    }
-    if v < order_at(clause, 0) {
-        return 0;
-    }
-    between(clause, v, 0, k - 1)
-}
-
-// The word of a literal.
-fn literal(v: usize, minus: bool) -> i16
-    requires { v ≤ 512 }
-    ensures { result ≡ literal_of minus v }
-{
-    let w = v as i16;
-    if minus { -w } else { w }
-}
-
-// The literals from at on move up by one, and w takes the place.
-fn splice(clause: &mut [i16], k: usize, at: usize, w: i16)
-    requires { (at ≤ k) × (k < length clause.old) }
-    ensures { Spliced clause.old k at w clause.new }
-{
-    let mut i = k;
-    while at < i {
-        clause[i] = clause[i - 1];
-        i = i - 1;
-    }
-    clause[at] = w;
-}
-
-// Writes the first words of from, so many, from a place on.
-fn copy(from: &[i16], count: usize, to: &mut [i16], at: usize)
-    requires { (count ≤ length from.now) × (at + count ≤ length to.old) }
-    ensures { Copied from.now count to.old at to.new }
-{
-    let mut i: usize = 0;
-    while i < count {
-        to[at + i] = from[i];
-        i = i + 1;
-    }
-}
-
-// The literal before at has variable v.
-fn same_before(clause: &[i16], at: usize, v: usize) -> bool
-    requires { at ≤ length clause.now }
-    ensures { result ≡ (ltb 0 at && eqb (var_at clause.now (at - 1)) v) }
-{
-    if 0 < at {
-        words::size_at(clause, at - 1) == v
-    } else {
-        false
-    }
-}
-
-// One literal more, unless its variable is there already or it is the 65th.
-fn add(clause: &mut [i16], k: usize, v: usize, minus: bool) -> bool
-    requires { (0 < v) × (v ≤ 512) × Begun clause.old k }
-    ensures { Added clause.old k (literal_of minus v) result clause.new }
-{
-    let at = spot(clause, k, v);
-    if same_before(clause, at, v) {
+    let v = words::magnitude(literal);
+    let Err(at) = clause[..k].binary_search_by_key(&v, |w| words::magnitude(*w)) else {
         return false;
-    }
+    };
     if k == CLAUSE_LENGTH {
         return false;
     }
-    let w = literal(v, minus);
-    splice(clause, k, at, w);
+    clause[k] = literal;
+    clause[at..k + 1].rotate_right(1);
     true
 }
 
 // ---- the clauses
 
 // A clause that has ended: its length and its literals.
-fn close(clause: &[i16], k: usize, words: &mut [i16], used: usize)
-    requires { (k ≤ 64) × (k ≤ length clause.now) × (used + k + 1 ≤ length words.old) }
-    ensures { Closed clause.now k words.old used words.new }
+fn close(clause: &[i16], words: &mut [i16], used: usize)
+    requires { (length clause.now ≤ 64) × (used + length clause.now + 1 ≤ length words.old) }
+    ensures { Closed clause.now words.old used words.new }
 {
-    words[used] = k as i16;
-    copy(clause, k, words, used + 1);
-}
-
-// The two words before the clauses.
-fn begin(words: &mut [i16], n: usize, m: usize)
-    requires { (n ≤ 512) × (m ≤ 2048) × (2 ≤ length words.old) }
-    ensures { take 2 words.new ≡ pos n ∷ pos m ∷ [] }
-{
-    words[0] = n as i16;
-    words[1] = m as i16;
+    let start = used + 1;
+    words[used] = clause.len() as i16;
+    words[start..start + clause.len()].copy_from_slice(clause);
 }
 
 // The clauses from a place on. The clause that has not ended stands in a buffer of its own.
 fn clauses(
     text: &[u8],
     start: usize,
-    n: usize,
-    m: usize,
+    sizes: Sizes,
     clause: &mut [i16],
     words: &mut [i16],
-) -> TextAnswer
-    requires { Headed text.now start n m × Roomy text.now clause.old words.old }
-    ensures { Formed (clauses_from n m text.now start) result words.new }
+) -> Result<usize, Fault>
+    requires { Headed text.now start sizes.variables sizes.clauses × Roomy text.now clause.old words.old }
+    ensures { Formed (clauses_from sizes.variables sizes.clauses text.now start) (told result) words.new }
 {
-    begin(words, n, m);
-    let mut k: usize = 0;
-    let mut used: usize = 2;
-    let mut ended: usize = 0;
+    words[0] = sizes.variables as i16;
+    words[1] = sizes.clauses as i16;
+    // Buffers with a length beside: no heap, fixed memory. An index: tokens differ in length.
+    let mut k = 0;
+    let mut used = 2;
+    let mut ended = 0;
     let mut at = tokens::next(text, start);
     while at < text.len() {
-        let Signed::Is(v, minus, end) = tokens::number_at(text, at) else {
-            return TextAnswer::Faulty(3, at);
-        };
-        let after = tokens::next(text, end);
-        if ended == m {
-            return TextAnswer::Faulty(6, at);
+        let number = tokens::number_at(text, at).ok_or(Fault(Reason::Number, at))?;
+        let size = number.value.unsigned_abs() as usize;
+        let after = tokens::next(text, number.end);
+        if ended == sizes.clauses {
+            return Err(Fault(Reason::Count, at));
         }
-        if n < v {
-            return TextAnswer::Faulty(4, at);
+        if sizes.variables < size {
+            return Err(Fault(Reason::Variable, at));
         }
-        if v == 0 {
-            close(clause, k, words, used);
+        if size == 0 {
+            close(&clause[..k], words, used);
             used = used + k + 1;
             k = 0;
-            ended = ended + 1;
-            at = after;
+            ended += 1;
+        } else if add(clause, k, number.value as i16) {
+            k += 1;
         } else {
-            if add(clause, k, v, minus) {
-                k = k + 1;
-                at = after;
-            } else {
-                return TextAnswer::Faulty(5, at);
-            }
+            return Err(Fault(Reason::Literal, at));
         }
+        at = after;
     }
-    if ended == m {
-        return TextAnswer::Words(used);
+    if ended == sizes.clauses {
+        return Ok(used);
     }
-    TextAnswer::Faulty(6, text.len())
+    Err(Fault(Reason::Count, text.len()))
 }
 
 // ---- the whole text
 
 // The words of the text's formula, into a buffer that is long enough.
-fn formula(text: &[u8], clause: &mut [i16], words: &mut [i16]) -> TextAnswer
+fn formula(text: &[u8], clause: &mut [i16], words: &mut [i16]) -> Result<usize, Fault>
     requires { Roomy text.now clause.old words.old }
-    ensures { Formed (headed small (length text.now) (lines text.now)) result words.new }
+    ensures { Formed (headed small (length text.now) (lines text.now)) (told result) words.new }
 {
     let at = tokens::first_line(text);
-    if at == text.len() {
-        return TextAnswer::Faulty(2, at);
-    }
     let end = tokens::line_end(text, at);
-    let Header::Sizes(n, m) = tokens::header_of(&text[..end], at) else {
-        return TextAnswer::Faulty(2, at);
-    };
-    clauses(text, end, n, m, clause, words)
+    let sizes = tokens::header_of(&text[..end], at).ok_or(Fault(Reason::Header, at))?;
+    clauses(text, end, sizes, clause, words)
 }
 
-// The room is written once all is known to be sound.
-fn read_by(text: &[u8], room: &mut [i16], clause: &mut [i16], words: &mut [i16]) -> TextAnswer
-    requires { Roomy text.now clause.old words.old }
-    ensures { TextRead small text.now room.old result room.new }
+// With a buffer of so many words. The room is written once all is known to be sound.
+fn read_in<const N: usize>(text: &[u8], room: &mut [i16]) -> Result<usize, Fault>
+    requires { (length text.now ≤ 65535) × (length text.now + 6 ≤ 2 * N) × (N ≤ 32772) }
+    ensures { TextRead small text.now room.old (told result) room.new }
 {
-    match formula(text, clause, words) {
-        TextAnswer::Faulty(number, place) => TextAnswer::Faulty(number, place),
-        TextAnswer::Words(used) => {
-            if room.len() < used {
-                return TextAnswer::Faulty(7, text.len());
-            }
-            if WORDS < used {
-                return TextAnswer::Faulty(7, text.len());
-            }
-            copy(words, used, room, 0);
-            TextAnswer::Words(used)
-        }
+    let mut clause = [0i16; CLAUSE_LENGTH];
+    let mut words = [0i16; N];
+    let used = formula(text, &mut clause, &mut words)?;
+    if room.len() < used || WORDS < used {
+        return Err(Fault(Reason::Room, text.len()));
     }
+    room[..used].copy_from_slice(&words[..used]);
+    Ok(used)
 }
 
-// A buffer for any text, and one that is cleared faster for a short text.
-fn read_long(text: &[u8], room: &mut [i16]) -> TextAnswer
-    requires { length text.now ≤ 65535 }
-    ensures { TextRead small text.now room.old result room.new }
+// By the text's length: a smaller buffer is cleared faster. A text of so many bytes has at most half as many words, and four more fit.
+fn read_words(text: &[u8], room: &mut [i16]) -> Result<usize, Fault>
+    ensures { TextRead small text.now room.old (told result) room.new }
 {
-    let mut clause = [0i16; 64];
-    let mut words = [0i16; 32772];
-    read_by(text, room, &mut clause, &mut words)
-}
-
-fn read_short(text: &[u8], room: &mut [i16]) -> TextAnswer
-    requires { length text.now ≤ 2048 }
-    ensures { TextRead small text.now room.old result room.new }
-{
-    let mut clause = [0i16; 64];
-    let mut words = [0i16; 1028];
-    read_by(text, room, &mut clause, &mut words)
+    if text.len() > TEXT_BYTES {
+        return Err(Fault(Reason::Length, TEXT_BYTES));
+    }
+    if text.len() > SHORT_TEXT {
+        read_in::<32772>(text, room)
+    } else {
+        read_in::<1028>(text, room)
+    }
 }
 
 // Reads a text into the room: how many words it wrote, or refusal number and place.
 pub fn read(text: &[u8], room: &mut [i16]) -> TextAnswer
     ensures { TextRead small text.now room.old result room.new }
 {
-    if TEXT_BYTES < text.len() {
-        return TextAnswer::Faulty(1, TEXT_BYTES);
+    match read_words(text, room) {
+        Ok(written) => TextAnswer::Words(written),
+        Err(Fault(reason, place)) => TextAnswer::Faulty(reason as usize, place),
     }
-    if text.len() <= SHORT_TEXT {
-        return read_short(text, room);
-    }
-    read_long(text, room)
 }

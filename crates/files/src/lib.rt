@@ -13,6 +13,7 @@ pub fn read_full<R: Read>(input: &mut R, buffer: &mut [u8]) -> usize
     ensures within { result ≤ length buffer.new }
     ensures read { Consumes (R.remaining input.old) (R.remaining input.new) (take result buffer.new) }
 {
+    // A loop: how many bytes a read gives shows only afterwards.
     let mut done = 0;
     while done < buffer.len() {
         match input.read(&mut buffer[done..]) {

@@ -18,7 +18,7 @@ const WORDS: usize = 32767;
 const CLAIMS: usize = 1024;
 // The bytes that are printed at most: a claim line has up to 38, the last line up to 53.
 pub const MOST: usize = 38 * CLAIMS + 53;
-// Refusal: trace words malformed.
+// Refusal: trace words malformed. Here and below numbers, as a Verdict carries them (`held_of`, `trace_lines`).
 const TRACE_MALFORMED: usize = 12;
 // Refusal: fewer count places than claims.
 const FEW_PLACES: usize = 13;
@@ -31,39 +31,29 @@ const NOT_WHOLE: usize = 29;
 fn render_refusal(number: usize, place: usize, buffer: &mut [u8]) -> usize
     ensures { Rendered (last_line (Verdict.Refused number place)) buffer.old result buffer.new }
 {
-    let none = [0u64; 1];
-    render::render(&none[0..0], Verdict::Refused(number, place), buffer)
+    render::render(&[], Verdict::Refused(number, place), buffer)
 }
 
 // The claims of a trace: a verdict of acceptance doesn't say how many there are, and a check that is lent no count place does.
 fn claims(formula: &[i16], trace: &[i16]) -> usize
     ensures { result ≡ claims_said (Verdict·check by_settings small 0 formula.now trace.now).says }
 {
-    let mut none = [0u64; 1];
-    let verdict = checker::check(formula, trace, &mut none[0..0]);
-    let Verdict::Refused(number, place) = verdict else {
-        return 0;
-    };
-    if number == FEW_PLACES { place } else { 0 }
+    match checker::check(formula, trace, &mut []) {
+        Verdict::Refused(FEW_PLACES, place) => place,
+        _ => 0,
+    }
 }
 
 // How many counts a check wrote: none after 11 to 13, all after acceptance or 29, else those of the claims before.
 fn held(formula: &[i16], trace: &[i16], verdict: Verdict) -> usize
     ensures { result ≡ held_of (claims_said (Verdict·check by_settings small 0 formula.now trace.now).says) verdict }
 {
-    let Verdict::Refused(number, place) = verdict else {
-        return claims(formula, trace);
-    };
-    if number < CLAIM_REFUSED {
-        return 0;
+    match verdict {
+        Verdict::Accepted(_) => claims(formula, trace),
+        Verdict::Refused(NOT_WHOLE, place) => place,
+        Verdict::Refused(CLAIM_REFUSED.., place) => place.saturating_sub(1),
+        Verdict::Refused(..) => 0,
     }
-    if number == NOT_WHOLE {
-        return place;
-    }
-    if place == 0 {
-        return 0;
-    }
-    place - 1
 }
 
 // What is printed of a sound formula and the words of a trace.
@@ -73,7 +63,7 @@ fn print_check(formula: &[i16], trace: &[i16], buffer: &mut [u8]) -> usize
     let mut counts = [0u64; CLAIMS];
     let verdict = checker::check(formula, trace, &mut counts);
     let lines = held(formula, trace, verdict);
-    render::render(&counts[0..lines], verdict, buffer)
+    render::render(&counts[..lines], verdict, buffer)
 }
 
 // What is printed of a sound formula and a trace file.
@@ -88,7 +78,7 @@ fn print_trace(formula: &[i16], trace: &[u8], buffer: &mut [u8]) -> usize
     }
     let mut words = [0i16; WORDS];
     let count = render::unpack(trace, &mut words);
-    print_check(formula, &words[0..count], buffer)
+    print_check(formula, &words[..count], buffer)
 }
 
 // What the program prints of the bytes of its two files, at the buffer's start, and how many bytes that is; nothing where it
@@ -97,9 +87,8 @@ pub fn print(text: &[u8], trace: &[u8], buffer: &mut [u8]) -> usize
     ensures { Printed small text.now trace.now buffer.old result buffer.new }
 {
     let mut room = [0i16; WORDS];
-    let answer = dimacs::read(text, &mut room);
-    match answer {
-        TextAnswer::Words(count) => print_trace(&room[0..count], trace, buffer),
+    match dimacs::read(text, &mut room) {
+        TextAnswer::Words(count) => print_trace(&room[..count], trace, buffer),
         TextAnswer::Faulty(number, place) => render_refusal(number, place, buffer),
     }
 }

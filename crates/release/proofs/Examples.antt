@@ -3,12 +3,12 @@ use mathlib.Core.Path.{◌≡◌, refl}
 use mathlib.Core.List.{List, [], ◌∷◌, ◌++◌}
 use Prim.Native.Nat.{ℕ, ◌+◌, ◌*◌}
 use lib.ListN.{replicate, set}
+use Rattle.std.specs.Prelude.{Ok, Err}
 use Rattle.meaning.specs.declared.Verdict.{Verdict}
 use Rattle.meaning.specs.declared.Verdict.TheVariants as verdict
 use Rattle.meaning.specs.Promise.{answer_places, answer_of}
-use Rattle.release.specs.declared.Totals.{Totals}
-use Rattle.release.specs.declared.Totals.TheVariants.{Given, Refused}
-use Rattle.release.specs.Report.{total_place, most_sum, most_answers, smallest_of, largest_of, report_over, report_of}
+use Rattle.release.specs.declared.ReportFault.TheVariants.{AnswersForm, SumLarge}
+use Rattle.release.specs.Report.{Totals, total_place, most_sum, most_answers, smallest_of, largest_of, report_over, report_of}
 
 -- the answers of verdicts, one after another
 abbrev said : List Verdict → List ℕ
@@ -16,7 +16,7 @@ said [] = []
 said (v ∷ vs) = answer_of v ++ said vs
 
 abbrev figures : ℕ → ℕ → ℕ → ℕ → ℕ → ℕ → ℕ → Totals
-figures accepted refused smallest smallest_place largest largest_place sum = Given (record {
+figures accepted refused smallest smallest_place largest largest_place sum = Ok (record {
   accepted = accepted;
   refused = refused;
   smallest = record { total = smallest; place = smallest_place };
@@ -34,15 +34,15 @@ pub record Examples : Type 0 where
   -- a refused answer's total is not read
   pub refused_total : report_of (set (said (verdict.Refused 25 3 ∷ verdict.Accepted 4 ∷ [])) total_place 9) ≡ figures 1 1 4 2 4 2 4
   -- no answers, and a slice that isn't whole answers
-  pub no_answers : report_of [] ≡ Refused 33
-  pub not_whole : report_of (said (verdict.Accepted 5 ∷ []) ++ 0 ∷ []) ≡ Refused 33
+  pub no_answers : report_of [] ≡ Err AnswersForm
+  pub not_whole : report_of (said (verdict.Accepted 5 ∷ []) ++ 0 ∷ []) ≡ Err AnswersForm
   -- a thousand answers and one more
   pub most_answers_report : report_of (replicate (most_answers * answer_places) 0) ≡ figures 1000 0 0 1 0 1 0
-  pub too_many : report_of (replicate ((most_answers + 1) * answer_places) 0) ≡ Refused 33
+  pub too_many : report_of (replicate ((most_answers + 1) * answer_places) 0) ≡ Err AnswersForm
   -- the largest sum and one more; 33 comes before 34
   pub largest_sum : report_of (said (verdict.Accepted most_sum ∷ verdict.Accepted 0 ∷ [])) ≡ figures 2 0 0 2 most_sum 1 most_sum
-  pub too_large : report_of (said (verdict.Accepted most_sum ∷ verdict.Accepted 1 ∷ [])) ≡ Refused 34
-  pub form_first : report_of (said (verdict.Accepted most_sum ∷ verdict.Accepted 1 ∷ []) ++ 0 ∷ []) ≡ Refused 33
+  pub too_large : report_of (said (verdict.Accepted most_sum ∷ verdict.Accepted 1 ∷ [])) ≡ Err SumLarge
+  pub form_first : report_of (said (verdict.Accepted most_sum ∷ verdict.Accepted 1 ∷ []) ++ 0 ∷ []) ≡ Err AnswersForm
 
 pub examples : Examples
 unfolding report_of report_over smallest_of largest_of

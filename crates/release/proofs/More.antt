@@ -7,11 +7,14 @@ use native.Mathlib.Omega.{arith}
 use lib.Dec.{leb}
 use lib.ListN.{length, length-append}
 use borrow.Author.Tests.{le-leb, lt-leb}
+use Rattle.std.specs.Prelude.{Ok, Err}
+use Rattle.std.specs.Ordering.{nat_cmp, is_lt}
+use Rattle.std.proofs.lemmas.Bool.Decides.{nat_tests}
 use Rattle.meaning.specs.Lists.{keep, how_many, sum}
 use Rattle.release.specs.declared.Placed.{Placed}
 use Rattle.release.specs.declared.Figures.{Figures}
-use Rattle.release.specs.declared.Totals.TheVariants.{Given, Refused}
-use Rattle.release.specs.Report.{Answer, answer, is_accepted, accepted, smallest_of, largest_of, sum_of, figures_of, most_sum, sum_large, report_over}
+use Rattle.release.specs.declared.ReportFault.TheVariants.{SumLarge}
+use Rattle.release.specs.Report.{Answer, answer, is_accepted, accepted, smallest_of, largest_of, sum_of, figures_of, most_sum, report_over}
 use Rattle.release.proofs.Best.{placed, smallest_first, smallest_more, largest_first, largest_more}
 
 module _ {X : Type 0} (p : X → Bool) (x : X) where
@@ -39,6 +42,10 @@ same_figures e f g h i = cc
 
 -- ---- the smallest and the largest
 
+-- the first where neither is below the other
+pub unless_below : {X : Type 0} (k l : ℕ) (u v : X) → cond (is_lt (nat_cmp k l)) u v ≡ cond (leb l k) v u
+unless_below k l u v = grind (arith, nat_tests)
+
 module _ (x : Answer) where
   smallest_one : (ys : List Answer) → length ys ≡ 0 → smallest_of (ys ++ x ∷ []) ≡ placed x
   smallest_one [] none = smallest_first x
@@ -57,10 +64,6 @@ module _ (x : Answer) where
   largest_next (y ∷ ys) some = largest_more y ys x
 
 -- ---- all figures
-
-none_sum : (ys : List Answer) → length ys ≡ 0 → sum (map (λ a. a.total) ys) ≡ 0
-none_sum [] none = refl
-none_sum (y ∷ ys) none = absurd (omega arith)
 
 module _ (xs : List Answer) where
   module _ (place total : ℕ) where
@@ -84,14 +87,14 @@ module _ (xs : List Answer) where
 
     -- an accepted answer after none
     pub accepted_first : length (accepted xs) ≡ 0
-        → record { accepted = 1; refused = (figures_of xs).refused; smallest = this; largest = this; sum = total } ≡ figures_of (xs ++ new ∷ [])
+        → record { accepted = 1; refused = (figures_of xs).refused; smallest = this; largest = this; sum = (figures_of xs).sum + total } ≡ figures_of (xs ++ new ∷ [])
     accepted_first none =
         same_figures
         (omega (arith, counted))
         passed
         (sym (ap smallest_of taken ∙ smallest_one new (accepted xs) none))
         (sym (ap largest_of taken ∙ largest_one new (accepted xs) none))
-        (omega (arith, summed, none_sum (accepted xs) none))
+        summed
 
     -- an accepted answer after others
     pub accepted_more : (length (accepted xs) ≡ 0 → ⊥)
@@ -142,10 +145,10 @@ all_told (x ∷ xs) = go (is_accepted x) (all_told xs)
 
 -- ---- the report over answers
 
-pub given_is : {f : Figures} (xs : List Answer) → f ≡ figures_of xs → f.sum ≤ most_sum → Given f ≡ report_over xs
+pub given_is : {f : Figures} (xs : List Answer) → f ≡ figures_of xs → f.sum ≤ most_sum → Ok f ≡ report_over xs
 unfolding report_over
-given_is xs e h = let s : sum_of xs ≤ most_sum = rw (ap (λ f. f.sum) e) at h in rw (le-leb (sum_of xs) most_sum s) (ap Given e)
+given_is xs e h = let s : sum_of xs ≤ most_sum = rw (ap (λ f. f.sum) e) at h in rw (le-leb (sum_of xs) most_sum s) (ap Ok e)
 
-pub too_large : (xs : List Answer) → most_sum < sum_of xs → Refused sum_large ≡ report_over xs
+pub too_large : (xs : List Answer) → most_sum < sum_of xs → Err SumLarge ≡ report_over xs
 unfolding report_over
 too_large xs h = rw (lt-leb (sum_of xs) most_sum h)

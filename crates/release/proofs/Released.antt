@@ -8,6 +8,7 @@ use native.Mathlib.Nat.{mul-div_cancel, mul-mod_left}
 use lib.Dec.{leb, eqb}
 use lib.ListN.{length, length-map}
 use borrow.Author.Tests.{ne_eqb}
+use Rattle.std.specs.Prelude.{Ok, Err}
 use Rattle.meaning.specs.declared.Verdict.{Verdict}
 use Rattle.meaning.specs.declared.Verdict.TheVariants.{Accepted, Refused}
 use Rattle.meaning.specs.Lists.{sum}
@@ -18,10 +19,8 @@ use Rattle.meaning.specs.Verdict.{by_settings, check}
 use Rattle.meaning.specs.Promise.{answer_places, answer_of, number_of}
 use Rattle.meaning.proofs.Total.{total_is}
 use Rattle.release.specs.declared.Figures.{Figures}
-use Rattle.release.specs.declared.Totals.{Totals}
-use Rattle.release.specs.declared.Totals.TheVariants.{Given}
-use Rattle.release.specs.declared.Totals.TheVariants as totals
-use Rattle.release.specs.Report.{Answer, answer, answers_from, answers_of, accepted, sum_of, figures_of, well_formed, most_sum, most_answers, answers_form, sum_large, report_over, report_of}
+use Rattle.release.specs.declared.ReportFault.TheVariants.{AnswersForm, SumLarge}
+use Rattle.release.specs.Report.{Totals, Answer, answer, answers_from, answers_of, accepted, sum_of, figures_of, well_formed, most_sum, most_answers, report_over, report_of}
 use Rattle.release.specs.Released.{Pack, says, written, accepts, accepted_packs, count_of, settings_of, release_settings, exact_answers}
 use Rattle.release.proofs.More.{all_told}
 use Rattle.release.proofs.Named.{Named, check_named}
@@ -111,7 +110,7 @@ written_formed ps =
 
 -- the report of answers, from what is tested before
 abbrev pub report_by : Bool → ℕ → List Answer → Totals
-report_by formed s xs = cond formed (cond (leb s most_sum) (Given (figures_of xs)) (totals.Refused sum_large)) (totals.Refused answers_form)
+report_by formed s xs = cond formed (cond (leb s most_sum) (Ok (figures_of xs)) (Err SumLarge)) (Err AnswersForm)
 
 -- 1 to 1,000 packs are never refused with 33, and with 34 only where the settings together pass 2^64 − 1
 pub released_report : (ps : List Pack)
@@ -122,17 +121,17 @@ released_report ps =
     ∙ ap₂ (report_by (leb 1 (length ps) && leb (length ps) most_answers)) (released_sum ps) (released_answers ps)
 
 given_only : (formed b : Bool) {f g : Figures}
-    → Given f ≡ cond formed (cond b (Given g) (totals.Refused sum_large)) (totals.Refused answers_form) → f ≡ g
+    → Ok f ≡ cond formed (cond b (Ok g) (Err SumLarge)) (Err AnswersForm) → f ≡ g
 given_only true true e = cc
-given_only true false e = let z : ◌≡◌ {A = ℕ} 0 1 = cc in absurd (omega arith)
-given_only false b e = let z : ◌≡◌ {A = ℕ} 0 1 = cc in absurd (omega arith)
+given_only true false e = cc
+given_only false b e = cc
 
 exact_length : (k : ℕ) (ps : List Pack) → length (exact_answers k ps) ≡ length ps
 exact_length k [] = refl
 exact_length k (p ∷ ps) = ap suc (exact_length (suc k) ps)
 
 -- a report that is not refused has these figures
-pub released : (ps : List Pack) {f : Figures} → report_of (written ps) ≡ Given f → Released ps f
+pub released : (ps : List Pack) {f : Figures} → report_of (written ps) ≡ Ok f → Released ps f
 released ps {f} e =
     let g : f ≡ figures_of (exact_answers 1 ps) =
     given_only (leb 1 (length ps) && leb (length ps) most_answers) (leb (release_settings ps) most_sum) (sym e ∙ released_report ps) in

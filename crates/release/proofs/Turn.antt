@@ -1,20 +1,21 @@
 -- A turn of the loop over the answers. Assumes nothing.
-use mathlib.Core.Path.{◌≡◌, refl, sym, ap, ◌∙◌}
-use mathlib.Core.Bool.{Bool, true, false, ◌&&◌, cond}
+use mathlib.Core.Path.{◌≡◌, refl, sym, ap, ap₂, ◌∙◌}
+use mathlib.Core.Bool.{Bool, true, false, cond}
 use mathlib.Core.List.{List, [], ◌∷◌, ◌++◌, map}
-use Prim.Native.Nat.{ℕ, zero, suc, ◌+◌, ◌*◌, ◌/◌, ◌%◌, ◌≤◌, ◌<◌}
+use Prim.Native.Nat.{ℕ, zero, suc, ◌+◌, ◌*◌, ◌≤◌, ◌<◌}
 use native.Mathlib.Omega.{arith}
-use native.Mathlib.Nat.{div-add-mod'}
-use lib.Dec.{leb, eqb}
+use lib.Dec.{leb}
 use lib.ListN.{length, get_or, drop}
-use lib.Seq.{get_or-drop}
+use lib.Seq.{get_or-drop, get_or-take}
 use borrow.Author.Tests.{leb-true, leb-false}
+use Rattle.std.specs.Prelude.{Ok, Err}
+use Rattle.std.specs.Simd.{first_chunks}
 use Rattle.meaning.specs.Lists.{sum}
 use Rattle.meaning.specs.Promise.{answer_places}
 use Rattle.release.specs.declared.Figures.{Figures}
-use Rattle.release.specs.declared.Totals.{Totals}
-use Rattle.release.specs.declared.Totals.TheVariants.{Given, Refused}
-use Rattle.release.specs.Report.{Answer, answer, number_place, total_place, answers_from, is_accepted, accepted, sum_of, figures_of, most_sum, sum_large, most_answers, well_formed, report_over}
+use Rattle.release.specs.declared.ReportFault.{ReportFault}
+use Rattle.release.specs.declared.ReportFault.TheVariants.{SumLarge}
+use Rattle.release.specs.Report.{Totals, Answer, answer, number_place, total_place, answers_from, is_accepted, accepted, sum_of, figures_of, most_sum, report_over}
 use Rattle.release.proofs.More.{all_told, given_is, too_large}
 
 pub length_answers : (k n : ℕ) (ws : List ℕ) → length (answers_from k n ws) ≡ n
@@ -61,13 +62,13 @@ sum_grows k (suc i) (suc n) ws h =
     go false us vs e = e
 
 -- what a report says back
-given_back : (b : Bool) {f g : Figures} {s : ℕ} → leb s most_sum ≡ b → Given f ≡ cond b (Given g) (Refused sum_large) → (f ≡ g) × (s ≤ most_sum)
+given_back : (b : Bool) {f g : Figures} {s : ℕ} → leb s most_sum ≡ b → Ok f ≡ cond b (Ok g) (Err SumLarge) → (f ≡ g) × (s ≤ most_sum)
 given_back true {s = s} l e = (cc, leb-true s most_sum l)
-given_back false l e = let z : ◌≡◌ {A = ℕ} 0 1 = cc in absurd (omega arith)
+given_back false l e = cc
 
-refused_back : (b : Bool) (g : Figures) {s k : ℕ} → leb s most_sum ≡ b → Refused k ≡ cond b (Given g) (Refused sum_large) → most_sum < s
-refused_back true g l e = let z : ◌≡◌ {A = ℕ} 0 1 = cc in absurd (omega arith)
-refused_back false g {s = s} l e = leb-false s most_sum l
+refused_back : (b : Bool) (g : Figures) {s : ℕ} {fault : ReportFault} → leb s most_sum ≡ b → Err fault ≡ cond b (Ok g) (Err SumLarge) → (fault ≡ SumLarge) × (most_sum < s)
+refused_back true g l e = cc
+refused_back false g {s = s} l e = (cc, leb-false s most_sum l)
 
 -- ---- the loop
 
@@ -76,46 +77,42 @@ pub record Over (ws : List ℕ) (i : ℕ) (f : Figures) : Type 0 where
   pub figures_are : f ≡ figures_of (answers_from 1 i ws)
   pub exact : f.sum ≤ most_sum
 
-pub over_none : {ws : List ℕ} {f : Figures} → f ≡ figures_of [] → Over ws 0 f
-over_none e = record { figures_are = e; exact = rw e (omega arith) }
-
 pub over_few : {ws : List ℕ} {i : ℕ} {f : Figures} → Over ws i f → f.accepted + f.refused ≡ i
 over_few {ws} {i} o = ap (λ f. f.accepted + f.refused) o.figures_are ∙ all_told (answers_from 1 i ws) ∙ length_answers 1 i ws
 
--- what the report with one more answer promises
-module _ {ws : List ℕ} {i : ℕ} {f : Figures} {r : Totals} (o : Over ws i f)
-    (said : (xs : List Answer) → f ≡ figures_of xs → r ≡ report_over (xs ++ read_at (i + 1) i ws ∷ [])) where
-  next : r ≡ report_over (answers_from 1 (i + 1) ws)
-  next = said (answers_from 1 i ws) o.figures_are ∙ ap report_over (answers_more i ws)
+-- what stands in the chunk behind i others
+chunk_at : (n i j : ℕ) (ws : List ℕ) → i < n → j < answer_places → get_or (get_or (first_chunks answer_places n ws) i []) j 0 ≡ get_or ws (answer_places * i + j) 0
+chunk_at zero i j ws h k = absurd (omega arith)
+chunk_at (suc n) zero j ws h k = get_or-take answer_places ws j 0 (omega arith) ∙ ap (λ m. get_or ws m 0) (omega arith)
+chunk_at (suc n) (suc i) j ws h k =
+    chunk_at n i j (drop answer_places ws) (omega arith) k
+    ∙ get_or-drop answer_places ws (answer_places * i + j) 0
+    ∙ ap (λ m. get_or ws m 0) (omega arith)
 
-  pub over_more : {more : Figures} → r ≡ Given more → Over ws (i + 1) more
+-- what the report with one more answer promises, where the answers stand in chunks
+module _ (count : ℕ) {ws : List ℕ} {cs : List (List ℕ)} {i : ℕ} {f : Figures} {r : Totals} (o : Over ws i f) (h : i < count)
+    (cut : cs ≡ first_chunks answer_places count ws)
+    (said : (xs : List Answer) → f ≡ figures_of xs → r ≡ report_over (xs ++ answer (i + 1) (get_or (get_or cs i []) number_place 0) (get_or (get_or cs i []) total_place 0) ∷ [])) where
+  next : r ≡ report_over (answers_from 1 (i + 1) ws)
+  next =
+      let at : (j : ℕ) → j < answer_places → get_or (get_or cs i []) j 0 ≡ get_or ws (answer_places * i + j) 0 =
+      λ j k. ap (λ cs. get_or (get_or cs i []) j 0) cut ∙ chunk_at count i j ws h k in
+      said (answers_from 1 i ws) o.figures_are
+      ∙ ap₂ (λ k t. report_over (answers_from 1 i ws ++ answer (i + 1) k t ∷ [])) (at number_place (omega arith)) (at total_place (omega arith))
+      ∙ ap report_over (answers_more i ws)
+
+  pub over_more : {more : Figures} → r ≡ Ok more → Over ws (i + 1) more
   unfolding report_over
   over_more {more} e =
       let b = given_back (leb (sum_of (answers_from 1 (i + 1) ws)) most_sum) refl (sym e ∙ next) in
       record { figures_are = b.0; exact = rw b.0 b.1 }
 
-  pub over_refused : {k : ℕ} (count : ℕ) → i < count → r ≡ Refused k → Refused sum_large ≡ report_over (answers_from 1 count ws)
+  pub over_refused : {fault : ReportFault} → r ≡ Err fault → Err fault ≡ report_over (answers_from 1 count ws)
   unfolding report_over
-  over_refused {k} count h e =
+  over_refused e =
       let xs = answers_from 1 (i + 1) ws in
-      let large : most_sum < sum_of xs = refused_back (leb (sum_of xs) most_sum) (figures_of xs) refl (sym e ∙ next) in
-      too_large (answers_from 1 count ws) (omega (arith, sum_grows 1 (i + 1) count ws (omega arith)))
+      let b = refused_back (leb (sum_of xs) most_sum) (figures_of xs) refl (sym e ∙ next) in
+      rw b.0 (too_large (answers_from 1 count ws) (omega (arith, b.1, sum_grows 1 (i + 1) count ws (omega arith))))
 
-pub over_all : {ws : List ℕ} {i : ℕ} {f : Figures} (count : ℕ) → Over ws i f → i ≡ count → Given f ≡ report_over (answers_from 1 count ws)
+pub over_all : {ws : List ℕ} {i : ℕ} {f : Figures} (count : ℕ) → Over ws i f → i ≡ count → Ok f ≡ report_over (answers_from 1 count ws)
 over_all {ws} {i} count o e = given_is (answers_from 1 i ws) o.figures_are o.exact ∙ ap (λ n. report_over (answers_from 1 n ws)) e
-
--- ---- the slice
-
-module _ (ws : List ℕ) where
-  few_answers : (a b c : Bool) → (a && b && c) ≡ true → c ≡ true
-  few_answers true true c e = e
-  few_answers true false c e = absurd (let z : ◌≡◌ {A = ℕ} 0 1 = cc in omega arith)
-  few_answers false b c e = absurd (let z : ◌≡◌ {A = ℕ} 0 1 = cc in omega arith)
-
-  pub formed_few : well_formed ws ≡ true → length ws / answer_places ≤ most_answers
-  formed_few e =
-      let n = length ws / answer_places in
-      leb-true n most_answers (few_answers (eqb (length ws % answer_places) 0) (leb 1 n) (leb n most_answers) e)
-
-  pub formed_within : length ws / answer_places * answer_places ≤ length ws
-  formed_within = omega (arith, div-add-mod' (length ws) answer_places)

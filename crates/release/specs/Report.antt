@@ -1,11 +1,11 @@
 -- Release totals, request E1: a report over the answers of the host call, which stand one after another in a lent slice.
-use Rattle.std.specs.Prelude.{◌≡◌, Bool, not, ◌&&◌, cond, List, [], ◌∷◌, map, ℕ, zero, suc, ◌/◌, ◌%◌, eqb, leb, length, get_or, drop}
+use Rattle.std.specs.Prelude.{◌≡◌, Bool, not, ◌&&◌, cond, List, [], ◌∷◌, map, ℕ, zero, suc, ◌/◌, ◌%◌, eqb, leb, length, get_or, drop, Result, Ok, Err}
 use Rattle.meaning.specs.Lists.{all, keep, how_many, sum}
 use Rattle.meaning.specs.Promise.{over, answer_places, unless_short}
 use Rattle.release.specs.declared.Placed.{Placed}
 use Rattle.release.specs.declared.Figures.{Figures}
-use Rattle.release.specs.declared.Totals.{Totals}
-use Rattle.release.specs.declared.Totals.TheVariants.{Given, Refused}
+use Rattle.release.specs.declared.ReportFault.{ReportFault}
+use Rattle.release.specs.declared.ReportFault.TheVariants.{AnswersForm, SumLarge}
 
 -- a report is over 1 to 1,000 answers
 abbrev pub most_answers : ℕ
@@ -22,6 +22,15 @@ answers_form = 33
 -- refusal: the sum passes 2^64 − 1
 abbrev pub sum_large : ℕ
 sum_large = 34
+
+-- the number of a refusal
+abbrev pub fault_number : ReportFault → ℕ
+fault_number AnswersForm = answers_form
+fault_number SumLarge = sum_large
+
+-- what is answered: the figures, or why there are none
+abbrev pub Totals : Type 0
+Totals = Result Figures ReportFault
 
 -- ---- the answers
 
@@ -96,11 +105,11 @@ well_formed ws = eqb (length ws % answer_places) 0 && leb 1 (length ws / answer_
 
 -- the report over answers: refused when the sum passes 2^64 − 1
 unfoldable pub report_over : List Answer → Totals
-report_over xs = cond (leb (sum_of xs) most_sum) (Given (figures_of xs)) (Refused sum_large)
+report_over xs = cond (leb (sum_of xs) most_sum) (Ok (figures_of xs)) (Err SumLarge)
 
 -- the report over a slice: first it is to be well formed
 unfoldable pub report_of : List ℕ → Totals
-report_of ws = cond (well_formed ws) (report_over (answers_of ws)) (Refused answers_form)
+report_of ws = cond (well_formed ws) (report_over (answers_of ws)) (Err AnswersForm)
 
 -- ---- the host's report: nine places
 
@@ -118,13 +127,13 @@ places_of number f =
 
 -- the figures of a refused report: all 0, as over no answers
 abbrev pub reported : Totals → List ℕ
-reported (Given f) = places_of 0 f
-reported (Refused number) = places_of number (figures_of [])
+reported (Ok f) = places_of 0 f
+reported (Err fault) = places_of (fault_number fault) (figures_of [])
 
 -- the number that is returned
 abbrev pub refusal_of : Totals → ℕ
-refusal_of (Given f) = 0
-refusal_of (Refused number) = number
+refusal_of (Ok f) = 0
+refusal_of (Err fault) = fault_number fault
 
 -- the promise: the returned number and the whole report slice; further places stay, and a slice under nine is refused with 13
 pub record HostedReport (answers report : List ℕ) (number : ℕ) (report' : List ℕ) : Type 0 where

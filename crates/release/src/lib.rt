@@ -1,36 +1,28 @@
 // Release totals: a report over the answers of the host call, in one pass over a lent slice.
 #![tactic(auto)]
 
-ghost use Rattle.std.specs.Prelude.{◌≡◌, false, cond, List, ◌++◌, ◌∷◌, [], ◌+◌, ◌*◌, ◌≤◌, ◌<◌, leb, length};
+ghost use Rattle.std.specs.Prelude.{◌≡◌, false, cond, List, ◌++◌, ◌∷◌, [], ◌+◌, ◌*◌, ◌/◌, ◌≤◌, ◌<◌, leb, length};
 ghost use Rattle.meaning.specs.Promise.{answer_places};
-ghost use Rattle.release.specs.Report.{Answer, answer, answers_from, is_accepted, figures_of, most_answers, most_sum, well_formed, report_over, report_of};
+ghost use Rattle.release.specs.Report.{Answer, answer, answers_of, is_accepted, figures_of, most_answers, well_formed, report_over, report_of, fault_number};
 
-// How many places an answer has, and which of them, from 0, are read.
-const ANSWER_PLACES: usize = 3;
+use std::cmp;
 
-const NUMBER_PLACE: usize = 0;
-
-const TOTAL_PLACE: usize = 2;
+// How many places an answer has.
+pub const ANSWER_PLACES: usize = 3;
 // A report is over at most so many answers.
 const MOST_ANSWERS: usize = 1000;
 // The places of so many.
 pub const MOST_PLACES: usize = ANSWER_PLACES * MOST_ANSWERS;
-// The largest sum: 2^64 - 1.
-const MOST_SUM: u64 = 18446744073709551615;
-// Refusal: no answers, too many, or a slice that isn't whole answers.
-pub const ANSWERS_FORM: u64 = 33;
-// Refusal: the sum is too large.
-const SUM_LARGE: u64 = 34;
 
 // A total, and the first place that has it; both 0 where no answer is accepted.
-#[derive(Clone, Copy)]
+#[derive(Clone, Copy, Default)]
 pub struct Placed {
     pub total: u64,
     pub place: u64,
 }
 
 // The figures of a report.
-#[derive(Clone, Copy)]
+#[derive(Clone, Copy, Default)]
 pub struct Figures {
     pub accepted: u64,
     pub refused: u64,
@@ -39,74 +31,54 @@ pub struct Figures {
     pub sum: u64,
 }
 
-// What is answered: the figures, or a refusal number.
-#[derive(Clone, Copy)]
-pub enum Totals {
-    Given(Figures),
-    Refused(u64),
+// Why there are no figures, with its refusal number.
+#[derive(Clone, Copy, Debug, PartialEq, Eq)]
+pub enum ReportFault {
+    // No answers, too many, or a slice that isn't whole answers.
+    AnswersForm = 33,
+    // The sum is too large.
+    SumLarge = 34,
+}
+
+impl ReportFault {
+    // The refusal number.
+    pub fn number(self) -> u64
+        ensures { result ≡ fault_number self }
+    {
+        self as u64
+    }
 }
 
 // The figures of no answers.
 pub fn nothing() -> Figures
     ensures { result ≡ figures_of [] }
 {
-    Figures {
-        accepted: 0,
-        refused: 0,
-        smallest: Placed { total: 0, place: 0 },
-        largest: Placed { total: 0, place: 0 },
-        sum: 0,
-    }
+    Figures::default()
 }
 
-// The smaller of two totals, the first where they are equal.
-fn smaller(first: Placed, second: Placed) -> Placed
-    ensures { result ≡ cond (leb first.total second.total) first second }
+// The figures with one more accepted answer, unless the sum is too large.
+fn accept(before: Figures, place: u64, total: u64) -> Result<Figures, ReportFault>
+    requires { before.accepted < most_answers }
+    ensures { (xs : List Answer) → before ≡ figures_of xs → result ≡ report_over (xs ++ answer place 0 total ∷ []) }
 {
-    if first.total <= second.total {
-        first
-    } else {
-        second
-    }
-}
-
-// The larger of two totals, the first where they are equal.
-fn larger(first: Placed, second: Placed) -> Placed
-    ensures { result ≡ cond (leb second.total first.total) first second }
-{
-    if second.total <= first.total {
-        first
-    } else {
-        second
-    }
-}
-
-// The figures with one more accepted answer.
-fn accept(before: Figures, place: u64, total: u64) -> Figures
-    requires accepted_lt_most_answers { before.accepted < most_answers }
-    requires total_bound { before.sum + total ≤ most_sum }
-    ensures { (xs : List Answer) → before ≡ figures_of xs → result ≡ figures_of (xs ++ answer place 0 total ∷ []) }
-{
-    let this = Placed {
-        total: total,
-        place: place,
-    };
+    let sum = before.sum.checked_add(total).ok_or(ReportFault::SumLarge)?;
+    let this = Placed { total, place };
     if before.accepted == 0 {
-        return Figures {
+        return Ok(Figures {
             accepted: 1,
-            refused: before.refused,
             smallest: this,
             largest: this,
-            sum: total,
-        };
+            sum,
+            ..before
+        });
     }
-    Figures {
+    Ok(Figures {
         accepted: before.accepted + 1,
-        refused: before.refused,
-        smallest: smaller(before.smallest, this),
-        largest: larger(before.largest, this),
-        sum: before.sum + total,
-    }
+        smallest: cmp::min_by_key(before.smallest, this, |p| p.total),
+        largest: cmp::max_by_key(this, before.largest, |p| p.total),
+        sum,
+        ..before
+    })
 }
 
 // The figures with one more refused answer.
@@ -114,23 +86,22 @@ fn refuse(before: Figures) -> Figures
     requires { before.refused < most_answers }
     ensures { (xs : List Answer) (a : Answer) → is_accepted a ≡ false → before ≡ figures_of xs → result ≡ figures_of (xs ++ a ∷ []) }
 {
-    let mut after = before;
-    after.refused = before.refused + 1;
-    after
+    Figures {
+        refused: before.refused + 1,
+        ..before
+    }
 }
 
 // The report with one more answer.
-fn add(before: Figures, place: u64, number: u64, total: u64) -> Totals
+fn add(before: Figures, place: u64, number: u64, total: u64) -> Result<Figures, ReportFault>
     requires { before.accepted + before.refused < most_answers }
     ensures { (xs : List Answer) → before ≡ figures_of xs → result ≡ report_over (xs ++ answer place number total ∷ []) }
 {
-    if number != 0 {
-        return Totals::Given(refuse(before));
+    if number == 0 {
+        accept(before, place, total)
+    } else {
+        Ok(refuse(before))
     }
-    if MOST_SUM - before.sum < total {
-        return Totals::Refused(SUM_LARGE);
-    }
-    Totals::Given(accept(before, place, total))
 }
 
 // Are there whole answers, at least one and not too many?
@@ -138,37 +109,29 @@ fn well_formed(answers: &[u64]) -> bool
     ensures { result ≡ well_formed answers.now }
 {
     let count = answers.len() / ANSWER_PLACES;
-    (answers.len() % ANSWER_PLACES == 0) & (1 <= count) & (count <= MOST_ANSWERS)
+    answers.len() % ANSWER_PLACES == 0 && (1..=MOST_ANSWERS).contains(&count)
 }
 
-// The report over so many answers.
-fn report_over(answers: &[u64], count: usize) -> Totals
-    requires count_le_most_answers { count ≤ most_answers }
-    requires answer_places_in_bounds { count * answer_places ≤ length answers.now }
-    ensures { result ≡ report_over (answers_from 1 count answers.now) }
+// The report over whole answers.
+fn report_over(answers: &[u64]) -> Result<Figures, ReportFault>
+    requires { length answers.now / answer_places ≤ most_answers }
+    ensures { result ≡ report_over (answers_of answers.now) }
 {
+    let (whole, _) = answers.as_chunks::<ANSWER_PLACES>();
     let mut figures = nothing();
-    let mut i = 0;
-    while i < count {
-        let start = ANSWER_PLACES * i;
-        let number = answers[start + NUMBER_PLACE];
-        let total = answers[start + TOTAL_PLACE];
-        i += 1;
-        let Totals::Given(more) = add(figures, i as u64, number, total) else {
-            return Totals::Refused(SUM_LARGE);
-        };
-        figures = more;
+    for (i, [number, _, total]) in whole.iter().enumerate() {
+        figures = add(figures, i as u64 + 1, *number, *total)?;
     }
-    Totals::Given(figures)
+    Ok(figures)
 }
 
 // The report over the answers that stand one after another in the slice.
-pub fn report(answers: &[u64]) -> Totals
+pub fn report(answers: &[u64]) -> Result<Figures, ReportFault>
     ensures { result ≡ report_of answers.now }
 {
     if well_formed(answers) {
-        report_over(answers, answers.len() / ANSWER_PLACES)
+        report_over(answers)
     } else {
-        Totals::Refused(ANSWERS_FORM)
+        Err(ReportFault::AnswersForm)
     }
 }

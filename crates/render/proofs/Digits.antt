@@ -2,7 +2,7 @@
 use mathlib.Core.Path.{◌≡◌, refl, ap}
 use mathlib.Core.Bool.{Bool, true, false, cond}
 use mathlib.Core.List.{List, [], ◌∷◌, ◌++◌}
-use Prim.Native.Nat.{ℕ, zero, suc, ◌+◌, ◌-◌, ◌*◌, ◌/◌, ◌%◌, ◌^◌, ◌<◌, ◌≤◌}
+use Prim.Native.Nat.{ℕ, zero, suc, max, ◌+◌, ◌-◌, ◌*◌, ◌/◌, ◌%◌, ◌^◌, ◌<◌, ◌≤◌}
 use native.Mathlib.Nat.{pow-suc, div-lt_iff_lt-mul}
 use native.Mathlib.Omega.{arith}
 use lib.Dec.{ltb, lit<}
@@ -42,6 +42,25 @@ few_places (suc k) n = few_more (ltb n 10) (digits k (n / 10)) (48 + n % 10) k (
 pub few_digits : (n : ℕ) → length (shown n) ≤ 20
 unfolding shown
 few_digits n = few_places 20 n
+
+-- a number from 10 ^ k up to 10 ^ (k + 1) has k + 1 digits
+some_power : (k : ℕ) → 0 < 10 ^ k
+some_power zero = lit< tt
+some_power (suc k) = omega (arith, pow-suc 10 k, some_power k)
+
+by_power : (k n : ℕ) → n < 2 ^ 64 → 10 ^ k ≤ n → n < 10 * 10 ^ k → k + 1 ≡ length (shown n)
+by_power zero n few low high = omega (arith, ap length (last_digit n (omega arith)))
+by_power (suc k) n few low high =
+    let e : 10 ^ suc k ≡ 10 ^ k * 10 = pow-suc 10 k in
+    let some = some_power k in
+    let rest = by_power k (n / 10) (omega arith) (omega arith) (omega arith) in
+    omega (arith, simp length-append at (ap length (digit_before n few (omega arith))))
+
+-- and 0 has one, as 1 has
+pub how_many_digits : (n k : ℕ) → n < 2 ^ 64 → 10 ^ k ≤ max n 1 → max n 1 < 10 * 10 ^ k → k + 1 ≡ length (shown n)
+how_many_digits zero zero few low high = omega (arith, ap length (last_digit 0 (omega arith)))
+how_many_digits zero (suc k) few low high = absurd (omega (arith, pow-suc 10 k, some_power k))
+how_many_digits (suc m) k few low high = by_power k (suc m) few (omega arith) (omega arith)
 
 -- one digit more is written before `at`
 module _ (b : List ℕ) (s at n d : ℕ) (few : n < 2 ^ 64) (here : at ≡ s + length (shown n)) (is : d ≡ 48 + n % 10) where

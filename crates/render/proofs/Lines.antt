@@ -1,24 +1,15 @@
 -- The lines of a check, one by one from either end, and that they are those of `meaning`. Assumes nothing.
 use mathlib.Core.Path.{◌≡◌, refl, sym, ap, ap₂, ◌∙◌}
 use mathlib.Core.List.{List, [], ◌∷◌, ◌++◌, append_assoc, append-nil}
-use Prim.Native.Nat.{ℕ, zero, suc, ◌+◌, ◌-◌, ◌<◌, ◌≤◌}
+use Prim.Native.Nat.{ℕ, suc, ◌+◌}
 use native.Mathlib.Nat.{add-zero, add-suc, suc-add}
-use native.Mathlib.Numerals.{add-one, one-add}
 use native.Mathlib.Omega.{arith}
-use lib.ListN.{length, get_or, take, drop, length-append}
-use lib.Seq.{drop-cons, take-suc, length-take-le}
+use lib.ListN.{length}
 use Rattle.meaning.specs.Text.{bytes}
 use Rattle.meaning.specs.Lines.{decimal, count_lines, last_line}
 use Rattle.meaning.specs.declared.Verdict.{Verdict}
 use Rattle.meaning.specs.declared.Verdict.TheVariants.{Accepted, Refused}
 use Rattle.render.specs.Shown.{shown, named, pair_line, claim_line, claim_lines, verdict_line}
-
--- the first line of what is left
-pub first_line : (counts : List ℕ) (i : ℕ) → i < length counts → length (claim_lines (i + 1) (drop i counts)) ≡ length (claim_line (i + 1) (get_or counts i 0)) + length (claim_lines (i + 1 + 1) (drop (i + 1) counts))
-first_line counts i more =
-    let e : claim_lines (i + 1) (drop i counts) ≡ claim_line (i + 1) (get_or counts i 0) ++ claim_lines (i + 1 + 1) (drop (i + 1) counts) =
-    rw (drop-cons counts i 0 more, add-one (i + 1), add-one i) in
-    ap length e ∙ length-append (claim_line (i + 1) (get_or counts i 0)) (claim_lines (i + 1 + 1) (drop (i + 1) counts))
 
 one_more : (k : ℕ) (cs : List ℕ) (c : ℕ) → claim_lines k (cs ++ c ∷ []) ≡ claim_lines k cs ++ claim_line (k + length cs) c
 one_more k [] c = append-nil (claim_line k c) ∙ ap (λ n. claim_line n c) (sym (add-zero k))
@@ -26,14 +17,9 @@ one_more k (x ∷ cs) c =
     ap (λ l. claim_line k x ++ l) (one_more (suc k) cs c ∙ ap (λ n. claim_lines (suc k) cs ++ claim_line n c) (suc-add k (length cs) ∙ sym (add-suc k (length cs))))
     ∙ sym (append_assoc (claim_line k x) (claim_lines (suc k) cs) (claim_line (k + suc (length cs)) c))
 
--- the last line of the first i
-pub last_claim_line : (counts : List ℕ) (i : ℕ) → 0 < i → i ≤ length counts → claim_lines 1 (take i counts) ≡ claim_lines 1 (take (i - 1) counts) ++ claim_line i (get_or counts (i - 1) 0)
-last_claim_line counts zero some few = absurd (omega arith)
-last_claim_line counts (suc i) some few =
-    let e : suc i - 1 ≡ i = omega arith in
-    rw e
-    (ap (claim_lines 1) (take-suc counts i 0 few) ∙ one_more 1 (take i counts) (get_or counts i 0)
-    ∙ ap (λ n. claim_lines 1 (take i counts) ++ claim_line n (get_or counts i 0)) (ap (λ n. 1 + n) (length-take-le i counts (omega arith)) ∙ one-add i))
+-- the last line, of the claim behind i others
+pub last_claim_line : {all : List ℕ} (cs : List ℕ) (c i : ℕ) → all ≡ cs ++ c ∷ [] → i ≡ length cs → claim_lines 1 all ≡ claim_lines 1 cs ++ claim_line (i + 1) c
+last_claim_line cs c i split e = ap (claim_lines 1) split ∙ one_more 1 cs c ∙ ap (λ n. claim_lines 1 cs ++ claim_line n c) (omega arith)
 
 -- ---- meaning's
 

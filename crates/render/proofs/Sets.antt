@@ -1,11 +1,14 @@
 -- Bytes written before bytes that are written. Assumes nothing.
 use mathlib.Core.Path.{◌≡◌, refl, sym, ap, ◌∙◌}
 use mathlib.Core.List.{List, [], ◌∷◌, ◌++◌}
-use Prim.Native.Nat.{ℕ, suc, ◌+◌, ◌<◌, ◌≤◌}
+use Prim.Native.Nat.{ℕ, suc, ◌+◌, ◌-◌, ◌<◌, ◌≤◌}
 use native.Mathlib.Nat.{zero-add, add-zero, add-suc, suc-add}
 use native.Mathlib.Omega.{arith}
-use lib.ListN.{length, set, length-append}
+use lib.ListN.{length, set, take, drop, length-append}
 use lib.Seq.{sets, set_comm, length-sets, sets-eq}
+use borrow.Rule.Slice.PartMut.{put_mid}
+use Rattle.std.proofs.lemmas.Slice.{put_mid-paste}
+use Rattle.std.proofs.lemmas.List.{take_all}
 use Rattle.meaning.specs.Promise.{over}
 use Rattle.render.specs.Placed.{Placed, Room}
 
@@ -48,3 +51,10 @@ part_left s xs ys {at} {r} {b} here p =
 -- bytes written from the start on
 pub sets_over : {A : Type 0} (xs b : List A) → length xs ≤ length b → sets b 0 xs ≡ over xs b
 sets_over xs b few = sets-eq xs b 0 (rw zero-add few) ∙ rw zero-add
+
+-- bytes copied into a part of that length
+pub copied : {A : Type 0} (b xs : List A) (s e : ℕ) → s + length xs ≡ e → e ≤ length b → put_mid s (e - s) b xs ≡ sets b s xs
+copied b xs s e here few =
+    put_mid-paste s (e - s) b xs xs (length xs) refl (omega arith) refl
+    ∙ ap (λ l. take s b ++ l ++ drop (s + length xs) b) (take_all (length xs) xs (omega arith))
+    ∙ sym (sets-eq xs b s (omega arith))

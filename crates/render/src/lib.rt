@@ -23,13 +23,7 @@ fn width(number: u64) -> usize
     ensures value { result ≡ length (shown number) }
     ensures upper_bound { result ≤ 20 }
 {
-    let mut digits = 1;
-    let mut rest = number;
-    while 10 <= rest {
-        rest /= 10;
-        digits += 1;
-    }
-    digits
+    number.max(1).ilog10() as usize + 1
 }
 
 // The byte of a digit.
@@ -37,64 +31,7 @@ fn digit(value: u64) -> u8
     requires { value < 10 }
     ensures { result ≡ 48 + value }
 {
-    48 + value as u8
-}
-
-// The digits of a number, and where they begin.
-fn put_number(buffer: &mut [u8], end: usize, number: u64) -> usize
-    requires { Room end (shown number) buffer.old }
-    ensures { Placed end (shown number) buffer.old result buffer.new }
-{
-    let mut at = end;
-    let mut rest = number;
-    loop {
-        at -= 1;
-        buffer[at] = digit(rest % 10);
-        if rest < 10 {
-            return at;
-        }
-        rest /= 10;
-    }
-}
-
-// A text, and where it begins.
-fn put_text(buffer: &mut [u8], end: usize, text: &[u8]) -> usize
-    requires { Room end text.now buffer.old }
-    ensures { Placed end text.now buffer.old result buffer.new }
-{
-    let start = end - text.len();
-    let mut i = 0;
-    while i < text.len() {
-        buffer[start + i] = text[i];
-        i += 1;
-    }
-    start
-}
-
-// A number behind what it is, and where that begins.
-fn put_named(buffer: &mut [u8], end: usize, name: &[u8], value: u64) -> usize
-    requires { Room end (named name.now value) buffer.old }
-    ensures { Placed end (named name.now value) buffer.old result buffer.new }
-{
-    let middle = put_number(buffer, end, value);
-    put_text(buffer, middle, name)
-}
-
-// A line of two named numbers, and where it begins.
-fn put_pair(
-    buffer: &mut [u8],
-    end: usize,
-    first: &[u8],
-    number: u64,
-    second: &[u8],
-    value: u64,
-) -> usize
-    requires { Room end (pair_line first.now number second.now value) buffer.old }
-    ensures { Placed end (pair_line first.now number second.now value) buffer.old result buffer.new }
-{
-    let line_end = put_text(buffer, end, b"\n");
-    let middle = put_named(buffer, line_end, second, value);
-    put_named(buffer, middle, first, number)
+    b'0' + value as u8
 }
 
 // How many bytes the line of a claim has.
@@ -118,41 +55,6 @@ fn verdict_width(verdict: Verdict) -> usize
     }
 }
 
-// The line of a total, and where it begins.
-fn put_accepted(buffer: &mut [u8], end: usize, total: u64) -> usize
-    requires { Room end (verdict_line (Verdict.Accepted total)) buffer.old }
-    ensures { Placed end (verdict_line (Verdict.Accepted total)) buffer.old result buffer.new }
-{
-    let line_end = put_text(buffer, end, b"\n");
-    put_named(buffer, line_end, b"accepted ", total)
-}
-
-// The line of a verdict, and where it begins.
-fn put_verdict(buffer: &mut [u8], end: usize, verdict: Verdict) -> usize
-    requires { Room end (verdict_line verdict) buffer.old }
-    ensures { Placed end (verdict_line verdict) buffer.old result buffer.new }
-{
-    match verdict {
-        Verdict::Accepted(total) => put_accepted(buffer, end, total),
-        Verdict::Refused(number, place) => put_pair(
-            buffer,
-            end,
-            b"refused ",
-            number as u64,
-            b" at ",
-            place as u64,
-        ),
-    }
-}
-
-// The line of a claim, and where it begins.
-fn put_claim(buffer: &mut [u8], end: usize, number: usize, count: u64) -> usize
-    requires { Room end (claim_line number count) buffer.old }
-    ensures { Placed end (claim_line number count) buffer.old result buffer.new }
-{
-    put_pair(buffer, end, b"claim ", number as u64, b" count ", count)
-}
-
 // How many bytes a line per count needs.
 fn claims_width(counts: &[u64]) -> usize
     requires { length counts.now ≤ small.claims }
@@ -160,29 +62,116 @@ fn claims_width(counts: &[u64]) -> usize
     ensures upper_bound { result ≤ 55296 }
 {
     let mut needed = 0;
-    let mut i = 0;
-    while i < counts.len() {
-        needed += claim_width(i + 1, counts[i]);
-        i += 1;
+    for (i, count) in counts.iter().enumerate() {
+        needed += claim_width(i + 1, *count);
     }
     needed
 }
 
-// A line per count, the last first.
-fn put_claims(buffer: &mut [u8], end: usize, counts: &[u64]) -> usize
-    requires { Room end (claim_lines 1 counts.now) buffer.old }
-    ensures { Placed end (claim_lines 1 counts.now) buffer.old result buffer.new }
-{
-    let mut at = end;
-    let mut i = counts.len();
-    while 0 < i {
-        at = put_claim(buffer, at, i, counts[i - 1]);
-        i -= 1;
-    }
-    at
+// A lent buffer that is written from the last byte to the first, and where its written bytes begin.
+#[derive(Drop)]
+struct Tail<'a> {
+    buffer: &'a mut [u8],
+    at: usize,
 }
 
-// The lines of a check: a line per count, and the verdict's.
+impl Tail<'_> {
+    // The digits of a number.
+    fn put_number(&mut self, number: u64)
+        requires { Room self.old.at (shown number) self.old.buffer.now }
+        ensures placed { Placed self.old.at (shown number) self.old.buffer.now self.new.at self.new.buffer.now }
+        ensures same_buffer { self.new.buffer.ghost_name ≡ self.old.buffer.ghost_name }
+    {
+        // A loop with its test at the end: 0 has a digit too.
+        let mut rest = number;
+        loop {
+            self.at -= 1;
+            self.buffer[self.at] = digit(rest % 10);
+            if rest < 10 {
+                return;
+            }
+            rest /= 10;
+        }
+    }
+
+    // A text.
+    fn put_text(&mut self, text: &[u8])
+        requires { Room self.old.at text.now self.old.buffer.now }
+        ensures placed { Placed self.old.at text.now self.old.buffer.now self.new.at self.new.buffer.now }
+        ensures same_buffer { self.new.buffer.ghost_name ≡ self.old.buffer.ghost_name }
+    {
+        let start = self.at - text.len();
+        self.buffer[start..self.at].copy_from_slice(text);
+        self.at = start;
+    }
+
+    // A number behind what it is.
+    fn put_named(&mut self, name: &[u8], value: u64)
+        requires { Room self.old.at (named name.now value) self.old.buffer.now }
+        ensures placed { Placed self.old.at (named name.now value) self.old.buffer.now self.new.at self.new.buffer.now }
+        ensures same_buffer { self.new.buffer.ghost_name ≡ self.old.buffer.ghost_name }
+    {
+        self.put_number(value);
+        self.put_text(name);
+    }
+
+    // A line of two named numbers.
+    fn put_pair(&mut self, first: &[u8], number: u64, second: &[u8], value: u64)
+        requires { Room self.old.at (pair_line first.now number second.now value) self.old.buffer.now }
+        ensures placed { Placed self.old.at (pair_line first.now number second.now value) self.old.buffer.now self.new.at self.new.buffer.now }
+        ensures same_buffer { self.new.buffer.ghost_name ≡ self.old.buffer.ghost_name }
+    {
+        self.put_text(b"\n");
+        self.put_named(second, value);
+        self.put_named(first, number);
+    }
+
+    // The line of a total.
+    fn put_accepted(&mut self, total: u64)
+        requires { Room self.old.at (verdict_line (Verdict.Accepted total)) self.old.buffer.now }
+        ensures placed { Placed self.old.at (verdict_line (Verdict.Accepted total)) self.old.buffer.now self.new.at self.new.buffer.now }
+        ensures same_buffer { self.new.buffer.ghost_name ≡ self.old.buffer.ghost_name }
+    {
+        self.put_text(b"\n");
+        self.put_named(b"accepted ", total);
+    }
+
+    // The line of a verdict.
+    fn put_verdict(&mut self, verdict: Verdict)
+        requires { Room self.old.at (verdict_line verdict) self.old.buffer.now }
+        ensures placed { Placed self.old.at (verdict_line verdict) self.old.buffer.now self.new.at self.new.buffer.now }
+        ensures same_buffer { self.new.buffer.ghost_name ≡ self.old.buffer.ghost_name }
+    {
+        match verdict {
+            Verdict::Accepted(total) => self.put_accepted(total),
+            Verdict::Refused(number, place) => {
+                self.put_pair(b"refused ", number as u64, b" at ", place as u64)
+            }
+        }
+    }
+
+    // The line of a claim.
+    fn put_claim(&mut self, number: usize, count: u64)
+        requires { Room self.old.at (claim_line number count) self.old.buffer.now }
+        ensures placed { Placed self.old.at (claim_line number count) self.old.buffer.now self.new.at self.new.buffer.now }
+        ensures same_buffer { self.new.buffer.ghost_name ≡ self.old.buffer.ghost_name }
+    {
+        self.put_pair(b"claim ", number as u64, b" count ", count);
+    }
+
+    // A line per count, the last first.
+    fn put_claims(&mut self, counts: &[u64])
+        requires { Room self.old.at (claim_lines 1 counts.now) self.old.buffer.now }
+        ensures placed { Placed self.old.at (claim_lines 1 counts.now) self.old.buffer.now self.new.at self.new.buffer.now }
+        ensures same_buffer { self.new.buffer.ghost_name ≡ self.old.buffer.ghost_name }
+    {
+        for (i, count) in counts.iter().enumerate().rev() {
+            self.put_claim(i + 1, *count);
+        }
+    }
+}
+
+// The lines of a check: a line per count, and the verdict's; 0 where they do not fit, as `Rendered` says.
 pub fn render(counts: &[u64], verdict: Verdict, buffer: &mut [u8]) -> usize
     requires { length counts.now ≤ small.claims }
     ensures { Rendered (count_lines 1 counts.now ++ last_line verdict) buffer.old result buffer.new }
@@ -191,8 +180,9 @@ pub fn render(counts: &[u64], verdict: Verdict, buffer: &mut [u8]) -> usize
     if buffer.len() < needed {
         return 0;
     }
-    let end = put_verdict(buffer, needed, verdict);
-    put_claims(buffer, end, counts);
+    let mut tail = Tail { buffer, at: needed };
+    tail.put_verdict(verdict);
+    tail.put_claims(counts);
     needed
 }
 
@@ -201,11 +191,10 @@ pub fn unpack(bytes: &[u8], words: &mut [i16]) -> usize
     requires { length bytes.now / 2 ≤ length words.old }
     ensures { Unpacked bytes.now words.old result words.new }
 {
-    let count = bytes.len() / 2;
-    let mut i = 0;
-    while i < count {
-        words[i] = words::word_of(bytes[2 * i], bytes[2 * i + 1]);
-        i += 1;
+    let (pairs, _) = bytes.as_chunks::<2>();
+    // An index: of a `zip` with `iter_mut` the proof doesn't learn what was written.
+    for (i, [low, high]) in pairs.iter().enumerate() {
+        words[i] = words::word_of(*low, *high);
     }
-    count
+    pairs.len()
 }

@@ -3,12 +3,12 @@ use mathlib.Core.Path.{◌≡◌, refl, sym, ap, ◌∙◌}
 use mathlib.Core.Logic.{⊎_elim}
 use mathlib.Core.Bool.{Bool, true, false, cond}
 use mathlib.Core.List.{List, [], ◌∷◌, map}
-use Prim.Native.Nat.{ℕ, suc, ◌+◌, ◌<◌, ◌≤◌}
+use Prim.Native.Nat.{ℕ, suc, min, ◌+◌, ◌<◌, ◌≤◌}
 use native.Mathlib.Omega.{arith}
 use native.Mathlib.Numerals.{add-one}
 use native.Mathlib.Nat.{add-zero, add-suc, suc-add}
-use borrow.Author.Tests.{lt-ltb, le-ltb}
-use lib.Dec.{ltb}
+use borrow.Author.Tests.{lt-ltb, le-ltb, eqb-true, eqb-false}
+use lib.Dec.{eqb, ltb}
 use lib.ListN.{length, drop, take, drop_of_length-le}
 use lib.Seq.{drop-cons, drop-drop, drop_at, length-take-le, take-add}
 use Rattle.meaning.specs.Lists.{keep, flat}
@@ -141,18 +141,20 @@ module _ (t : List ℕ) (at : ℕ) (h : at ≤ length t) {e : ℕ} (i : e ≡ li
       passed : lines t ≡ lines_after t at
       passed = same ∙ lines_passed t at (of_line s n)
 
-      pub at_end : e ≡ length t → FirstLine t e
-      at_end l = record {
-        within = omega arith;
-        same = passed ∙ after_last t at (sym i ∙ l) ∙ sym (lines_none t e (omega arith));
-        reached = λ k. absurd (omega arith);
-      }
-
-      pub next_line : (e ≡ length t → ⊥) → (e + 1 ≤ length t) × (lines t ≡ lines_at t (e + 1))
-      next_line l = let k : e < length t = omega (arith, line_within t at h, l) in (omega arith, passed ∙ rw i (after_line t at (rw i at k)))
+      -- on to the next line, or to the text's end
+      pub next_line : (min (length t) (e + 1) ≤ length t) × (lines t ≡ lines_at t (min (length t) (e + 1)))
+      next_line = (omega arith, go (eqb e (length t)) refl)
+        where
+          go : (x : Bool) → eqb e (length t) ≡ x → lines t ≡ lines_at t (min (length t) (e + 1))
+          go true q =
+              let l = eqb-true e (length t) q in
+              let m : min (length t) (e + 1) ≡ length t = omega arith in
+              passed ∙ after_last t at (sym i ∙ l) ∙ sym (lines_none t (length t) (omega arith)) ∙ ap (lines_at t) (sym m)
+          go false q =
+              let l = eqb-false e (length t) q in
+              let k : e < length t = omega (arith, line_within t at h, l) in
+              let m : min (length t) (e + 1) ≡ e + 1 = omega arith in
+              passed ∙ rw i (after_line t at (rw i at k)) ∙ ap (lines_at t) (sym m)
 
   pub ends_onward : at ≤ e
   ends_onward = omega (arith, line_onward t at)
-
-pub no_line : {t : List ℕ} {at : ℕ} → at ≤ length t → length t ≤ at → lines t ≡ lines_at t at → FirstLine t at
-no_line h l same = record { within = h; same = same; reached = λ k. absurd (omega arith) }

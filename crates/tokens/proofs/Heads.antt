@@ -1,57 +1,42 @@
 -- The header's line: its words and its numbers. Assumes nothing.
 use mathlib.Core.Path.{◌≡◌, refl, sym, ap, ◌∙◌}
-use mathlib.Core.Bool.{Bool, true, false, ◌&&◌, cond, true≢false}
+use mathlib.Core.Bool.{Bool, true, false, not, not-not, ◌&&◌, cond, true≢false}
 use mathlib.Core.List.{List, [], ◌∷◌, append-nil}
 use mathlib.Core.Option.{Option, none, some}
 use Prim.Native.Nat.{ℕ, suc, ◌+◌, ◌<◌, ◌≤◌}
 use Prim.Native.Char.{Char, code}
 use native.Mathlib.Omega.{arith}
 use mathlib.Core.Logic.{◌⊎◌, inl, inr, ⊎_elim}
-use borrow.Author.Tests.{eqb-true, ltb-true, ltb-false, lt-ltb, le-ltb, le-leb, lt-leb, ne_eqb}
+use borrow.Author.Tests.{eqb-true, ltb-true, ltb-false, le-ltb, le-leb, lt-leb, ne_eqb}
 use lib.Dec.{eqb, ltb, leb, eqb-suc-suc}
 use lib.ListN.{length, get_or, drop, length-drop, drop_of_length-le}
 use lib.Seq.{drop-length, drop-cons}
 use Rattle.meaning.specs.Lists.{same_by, given, only}
 use Rattle.meaning.specs.Limits.{small}
 use Rattle.meaning.specs.Text.{is, begins, spells, Piece, tokens, numeral, header}
+use Rattle.std.specs.Cmp.Lexicographic.{pointwise}
 use Rattle.tokens.specs.Scan.{parts, line, piece, scan, stands, parted, line_end, word_at, tokens_from, Next}
-use Rattle.tokens.specs.declared.Numeral.TheVariants as numerals
 use Rattle.tokens.specs.Numbers.{NumeralRead}
 use Rattle.tokens.specs.Header.{OneLine, bytes_of, sizes_of}
-use Rattle.tokens.proofs.Places.{not_parted, stands_parted, word_stops, word_goes, gap_token, gap_end, comment_line, word_within, and_true_l, and_true_r, stands_inside}
+use Rattle.tokens.proofs.Places.{word_stops, gap_token, gap_end, comment_line, word_within, and_true_l, and_true_r, stands_inside}
 use Rattle.tokens.proofs.Lines.{gap_line}
-use Rattle.tokens.proofs.Numbers.{big_parts}
+use Rattle.tokens.proofs.Numbers.{numeral_is, big_parts, begins_word}
 
 -- ---- a word that is spelled
 
-module _ (t : List ℕ) (at : ℕ) where
-  spells_none : same_by eqb (word_at t at) [] ≡ parted t at
-  spells_none = go (parted t at) refl
-    where
-      go : (x : Bool) → parted t at ≡ x → same_by eqb (word_at t at) [] ≡ x
-      go true e = rw (word_stops t at e)
-      go false e = let n = not_parted t at e in rw (word_goes t at n.0 n.1)
+same_pointwise : (w s : List ℕ) → pointwise eqb w s ≡ same_by eqb w s
+same_pointwise [] [] = refl
+same_pointwise [] (x ∷ s) = refl
+same_pointwise (b ∷ w) [] = refl
+same_pointwise (b ∷ w) (x ∷ s) = ap (λ e. eqb b x && e) (same_pointwise w s)
 
-  spells_more : (x : ℕ) (xs : List ℕ) → parts x ≡ false → same_by eqb (word_at t at) (x ∷ xs) ≡ (stands t at x && same_by eqb (word_at t (at + 1)) xs)
-  unfolding stands
-  spells_more x xs p = go (parted t at) refl
-    where
-      go : (y : Bool) → parted t at ≡ y → same_by eqb (word_at t at) (x ∷ xs) ≡ ((ltb at (length t) && eqb (get_or t at 0) x) && same_by eqb (word_at t (at + 1)) xs)
-      go true e = rw (word_stops t at e, stands_parted t at x p e)
-      go false e = let n = not_parted t at e in rw (word_goes t at n.0 n.1, lt-ltb at (length t) n.0)
+-- what `!=` answers
+pub spelled : {w w' s s' : List ℕ} {r : Bool} → r ≡ not (pointwise eqb w' s') → w' ≡ w → s' ≡ s → same_by eqb w s ≡ not r
+spelled {w} {s} d e f = rw (d, e, f, same_pointwise w s, not-not)
 
-pub spells_p : (t : List ℕ) (at : ℕ) → spells "p" (word_at t at) ≡ (stands t at 112 && parted t (at + 1))
-spells_p t at = spells_more t at 112 [] (big_parts 112 (omega arith)) ∙ rw (spells_none t (at + 1))
-
-pub spells_cnf : (t : List ℕ) (at : ℕ) → spells "cnf" (word_at t at) ≡ (stands t at 99 && (stands t (at + 1) 110 && (stands t (at + 2) 102 && parted t (at + 3))))
-spells_cnf t at =
-    let two : at + 1 + 1 ≡ at + 2 = omega arith in
-    let three : at + 2 + 1 ≡ at + 3 = omega arith in
-    spells_more t at 99 (110 ∷ 102 ∷ []) (big_parts 99 (omega arith))
-    ∙ ap (λ x. stands t at 99 && x)
-    (spells_more t (at + 1) 110 (102 ∷ []) (big_parts 110 (omega arith))
-    ∙ ap (λ x. stands t (at + 1) 110 && x)
-    (rw two (spells_more t (at + 2) 102 [] (big_parts 102 (omega arith)) ∙ rw (three, spells_none t (at + 3)))))
+spells_begins : (w : List ℕ) → spells "p" w ≡ true → begins "p" w ≡ true
+spells_begins [] e = e
+spells_begins (b ∷ w) e = and_true_l (eqb b 112) (same_by eqb w []) e
 
 -- ---- the tokens from a place on, by number
 
@@ -90,6 +75,10 @@ given_none : {X Y : Type 0} (o : Option X) → given {Y = Y} o (λ x. none) ≡ 
 given_none none = refl
 given_none (some x) = refl
 
+and_false : (b : Bool) → (b && false) ≡ false
+and_false true = refl
+and_false false = refl
+
 -- ---- the two numbers
 
 module _ {t : List ℕ} {at a : ℕ} (first : Next t at a) where
@@ -97,7 +86,7 @@ module _ {t : List ℕ} {at a : ℕ} (first : Next t at a) where
   unfolding sizes_of
   sizes_first e = rw (first_is first, e)
 
-  module _ {n e b : ℕ} (r : NumeralRead t a (numerals.Is n e)) (second : Next t e b) where
+  module _ {n e b : ℕ} (r : NumeralRead t a (numeral_is n e)) (second : Next t e b) where
     rest_are : (k : ℕ) → bytes_of (tokens_from t at) (suc k) ≡ bytes_of (tokens_from t e) k
     rest_are k = later_are first k ∙ ap (λ x. bytes_of (tokens_from t x) k) (sym r.1)
 
@@ -108,7 +97,7 @@ module _ {t : List ℕ} {at a : ℕ} (first : Next t at a) where
     unfolding sizes_of
     sizes_second i = rw (second_is, i) (sym (given_none (numeral (bytes_of (tokens_from t at) 0))))
 
-    module _ {m f d : ℕ} (s : NumeralRead t b (numerals.Is m f)) (third : Next t f d) where
+    module _ {m f d : ℕ} (s : NumeralRead t b (numeral_is m f)) (third : Next t f d) where
       long : length (tokens_from t at) ≡ suc (suc (length (tokens_from t f)))
       long =
           ap length (there_is first (numeral_there r.0)).1
@@ -127,11 +116,8 @@ module _ {t : List ℕ} {at a : ℕ} (first : Next t at a) where
         two : sizes_of (tokens_from t at) ≡ only (leb n 512 && leb m 2048) (n, m)
         two = sizes_are ∙ rw (⊎_elim (λ y. absurd (omega (arith, y.0))) (λ y. y.1) (next_or third))
 
-        pub sizes_n : 512 < n → none ≡ sizes_of (tokens_from t at)
-        sizes_n i = sym (two ∙ rw (lt-leb n 512 i))
-
-        pub sizes_m : n ≤ 512 → 2048 < m → none ≡ sizes_of (tokens_from t at)
-        sizes_m i j = sym (two ∙ rw (le-leb n 512 i, lt-leb m 2048 j))
+        pub sizes_many : (512 < n) ⊎ (2048 < m) → none ≡ sizes_of (tokens_from t at)
+        sizes_many h = sym (two ∙ ⊎_elim (λ i. rw (lt-leb n 512 i)) (λ j. rw (lt-leb m 2048 j, and_false (leb n 512))) h)
 
         pub sizes_ok : n ≤ 512 → m ≤ 2048 → some (n, m) ≡ sizes_of (tokens_from t at)
         sizes_ok i j = sym (two ∙ rw (le-leb n 512 i, le-leb m 2048 j))
@@ -157,7 +143,7 @@ module _ {t : List ℕ} {at : ℕ} (o : OneLine t at) where
   tokens_are = sym (gap_line at (drop at t) ∙ rw (comment_line (drop at t) at, line_is, drop-length (drop at t), append-nil))
 
 -- a numeral's end is within the text
-pub read_within : (t : List ℕ) (at : ℕ) {n e : ℕ} → at ≤ length t → NumeralRead t at (numerals.Is n e) → e ≤ length t
+pub read_within : (t : List ℕ) (at : ℕ) {n e : ℕ} → at ≤ length t → NumeralRead t at (numeral_is n e) → e ≤ length t
 read_within t at h r = omega (arith, r.1, word_within t at h)
 
 -- ---- the header
@@ -237,7 +223,7 @@ module _ {t : List ℕ} {at : ℕ} (o : OneLine t at) where
 
   module _ (p : spells "p" (word_at t at) ≡ true) where
     stands_p : stands t at 112 ≡ true
-    stands_p = and_true_l (stands t at 112) (parted t (at + 1)) (sym (spells_p t at) ∙ p)
+    stands_p = sym (begins_word "p" (big_parts 112 (omega arith)) t at) ∙ spells_begins (word_at t at) p
 
     pub p_within : at + 1 ≤ length t
     p_within = let h = stands_inside t at 112 stands_p in omega arith

@@ -3,21 +3,35 @@ use mathlib.Core.Path.{◌≡◌, refl, sym, ap, ◌∙◌}
 use mathlib.Core.Bool.{Bool, true, false, not, ◌&&◌, ◌||◌, cond, true≢false}
 use mathlib.Core.List.{List, [], ◌∷◌}
 use mathlib.Core.Option.{Option, none, some}
-use Prim.Native.Nat.{ℕ, ◌+◌, ◌-◌, ◌*◌, ◌^◌, ◌<◌, ◌≤◌}
+use Prim.Native.Nat.{ℕ, zero, suc, ◌+◌, ◌-◌, ◌*◌, ◌^◌, ◌<◌, ◌≤◌}
 use Prim.Native.Char.{Char, code}
 use native.Mathlib.Omega.{arith}
+use native.Mathlib.Nat.{add-zero}
 use borrow.Author.Tests.{ltb-true, leb-true, ne_eqb, eqb-true, lt-ltb, le-leb, lt-leb, eq-eqb}
 use lib.Dec.{eqb, ltb, leb}
-use lib.IntN.{ℤ, pos, neg_ℤ}
-use lib.ListN.{length, get_or}
-use lib.Pow.{pow-add, pow_mono, pow_pos}
+use lib.IntN.{ℤ, pos, neg_ℤ, nat_abs}
+use lib.ListN.{length, get_or, take, drop, length-take, length-drop}
+use lib.Seq.{get_or-take, get_or-drop}
+use Rattle.std.proofs.lemmas.List.{get_or_default}
+use Rattle.std.proofs.lemmas.Option.{cond_some, none-some}
+use lib.Pow.{pow-add, pow_mono}
 use Rattle.meaning.specs.Lists.{all, only, given}
 use Rattle.meaning.specs.Text.{begins, value, numeral, signed}
 use Rattle.tokens.specs.Scan.{parts, stands, parted, word_at}
-use Rattle.tokens.specs.declared.Numeral.TheVariants as numerals
-use Rattle.tokens.specs.declared.Signed.TheVariants as signs
-use Rattle.tokens.specs.Numbers.{is_digit, Running, Ran, literal_of, NumeralRead, SignedRead}
+use Rattle.std.specs.Prelude as std
+use Rattle.std.specs.Int.{from_bool}
+use Rattle.tokens.specs.declared.Numeral.{Numeral}
+use Rattle.tokens.specs.declared.Signed.{Signed}
+use Rattle.tokens.specs.Numbers.{is_digit, digit, Running, Ran, literal_of, NumeralRead, SignedRead}
 use Rattle.tokens.proofs.Places.{and_true_l, and_true_r, not_parted, stands_parted, word_stops, word_goes}
+
+-- ---- what an answer holds
+
+abbrev pub numeral_is : ℕ → ℕ → std.Option Numeral
+numeral_is v end = std.Some (record { value = v; end = end })
+
+abbrev pub signed_as : ℤ → ℕ → std.Option Signed
+signed_as z end = std.Some (record { value = z; end = end })
 
 -- ---- digits
 
@@ -25,7 +39,7 @@ digit_low : (b : ℕ) → is_digit b ≡ true → 48 ≤ b
 unfolding is_digit
 digit_low b e = leb-true 48 b (and_true_l (leb 48 b) (leb b 57) e)
 
-digit_high : (b : ℕ) → is_digit b ≡ true → b ≤ 57
+pub digit_high : (b : ℕ) → is_digit b ≡ true → b ≤ 57
 unfolding is_digit
 digit_high b e = leb-true b 57 (and_true_r (leb 48 b) (leb b 57) e)
 
@@ -49,9 +63,6 @@ value_small {start} {at} r =
     omega (arith, r.small, pow_mono k)
 
 module _ (t : List ℕ) (start : ℕ) where
-  pub running_none : start ≤ length t → Running t start 0 start
-  running_none h = record { onward = omega arith; within = h; few = omega arith; digits = refl; size = omega arith; valued = refl; small = pow_pos (4 * (start - start)) }
-
   pub running_more : {v at : ℕ} → Running t start v at → at < length t → is_digit (get_or t at 0) ≡ true → at < start + 5 → Running t start (10 * v + (get_or t at 0 - 48)) (at + 1)
   running_more {v} {at} r h e f =
       let w : word_at t at ≡ get_or t at 0 ∷ word_at t (at + 1) = word_goes t at h (digit_parts (get_or t at 0) e) in
@@ -66,16 +77,30 @@ module _ (t : List ℕ) (start : ℕ) where
         small = rw before (value_grows (at - start) v (get_or t at 0 - 48) r.small (omega (arith, digit_high (get_or t at 0) e)));
       }
 
--- what `digit` answers
-pub digit_told : (b d : ℕ) → d ≡ cond (is_digit b) (b - 48) 10 → d ≤ 9 → (is_digit b ≡ true) × (d ≡ b - 48)
-digit_told b d e h = go (is_digit b) e
-  where
-    go : (x : Bool) → d ≡ cond x (b - 48) 10 → (x ≡ true) × (d ≡ b - 48)
-    go true i = (refl, i)
-    go false i = absurd (omega arith)
+-- ---- the bytes from a place on
 
-pub digit_not : (b d : ℕ) → d ≡ cond (is_digit b) (b - 48) 10 → 9 < d → is_digit b ≡ true → ⊥
-digit_not b d e h i = let f : d ≡ b - 48 = e ∙ rw i in omega (arith, digit_high b i)
+abbrev pub front : List ℕ → ℕ → List ℕ
+front t start = take (length t - start) (drop start t)
+
+-- what is the next of the first five of them
+pub front_at : (t : List ℕ) (start end b : ℕ) {k : ℕ} → end ≡ start + k → k < length (take 5 (front t start)) → b ≡ get_or (take 5 (front t start)) k b → (end < length t) × (b ≡ get_or t end 0) × (end < start + 5)
+front_at t start end b {k} e h i =
+    let n = length-take 5 (front t start) in
+    let m = length-take (length t - start) (drop start t) in
+    let l = length-drop start t in
+    let g : b ≡ get_or t end b =
+    i ∙ get_or-take 5 (front t start) k b (omega (arith, n)) ∙ get_or-take (length t - start) (drop start t) k b (omega (arith, n, m)) ∙ get_or-drop start t k b ∙ ap (λ j. get_or t j b) (sym e) in
+    (omega (arith, n, m, l), g ∙ get_or_default t end b 0 (omega (arith, n, m, l)), omega (arith, n))
+
+-- ---- what `digit` answers
+
+pub digit_told : (b d : ℕ) → digit b ≡ std.Some d → (is_digit b ≡ true) × (b - 48 ≡ d)
+unfolding digit
+digit_told b d e = cond_some (is_digit b) (b - 48) d e
+
+pub digit_not : (b : ℕ) → digit b ≡ std.None → is_digit b ≡ true → ⊥
+unfolding digit
+digit_not b e i = none-some (b - 48) (sym e ∙ rw i)
 
 -- ---- a word's first byte
 
@@ -151,18 +176,19 @@ module _ {t : List ℕ} {start v end : ℕ} (r : Ran t start v end) where
     ended : end ≡ start + length (word_at t start)
     ended = omega (arith, r.running.onward, counted)
 
-    read_is : (end ≡ start → ⊥) → (not (begins "0" (word_at t start)) || eqb (end - start) 1) ≡ true → NumeralRead t start (numerals.Is v end)
+    read_is : (end ≡ start → ⊥) → (not (begins "0" (word_at t start)) || eqb (end - start) 1) ≡ true → NumeralRead t start (numeral_is v end)
     read_is n z = (
       number_is (word_at t start) (r.running.digits ∙ rw (word_stops t end e)) (omega (arith, counted, r.running.onward)) (omega (arith, counted, r.running.few)) (rw counted z)
           ∙ ap some (r.running.valued ∙ rw (word_stops t end e)),
       ended,
       e,
+      value_small r.running,
     )
 
-    pub one_digit : end ≡ start + 1 → NumeralRead t start (numerals.Is v end)
+    pub one_digit : end ≡ start + 1 → NumeralRead t start (numeral_is v end)
     one_digit i = read_is (λ n. omega arith) (or-true (not (begins "0" (word_at t start))) (eqb (end - start) 1) (eq-eqb (end - start) 1 (omega arith)))
 
-    pub more_digits : (end ≡ start → ⊥) → stands t start 48 ≡ false → NumeralRead t start (numerals.Is v end)
+    pub more_digits : (end ≡ start → ⊥) → stands t start 48 ≡ false → NumeralRead t start (numeral_is v end)
     more_digits n z = read_is n (rw (begins_word "0" (big_parts 48 (omega arith)) t start, z))
 
     pub leading_zero : (end ≡ start + 1 → ⊥) → stands t start 48 ≡ true → numeral (word_at t start) ≡ none
@@ -179,10 +205,15 @@ module _ {t : List ℕ} {start v end : ℕ} (r : Ran t start v end) where
 
 -- where a minus stands the digits begin after it
 abbrev pub digits_at : Bool → ℕ → ℕ
-digits_at minus at = cond minus (at + 1) at
+digits_at minus at = at + from_bool minus
 
 abbrev with_sign : Bool → ℕ → Option ℤ
 with_sign minus v = cond minus (only (ltb 0 v) (neg_ℤ (pos v))) (some (pos v))
+
+size_of : (m : Bool) (v : ℕ) → nat_abs (literal_of m v) ≡ v
+size_of true zero = refl
+size_of true (suc v) = refl
+size_of false v = refl
 
 plain : (ws : List ℕ) → begins "-" ws ≡ false → signed ws ≡ given (numeral ws) (λ v. some (pos v))
 plain [] e = refl
@@ -198,23 +229,23 @@ module _ (t : List ℕ) (at : ℕ) where
 
   signed_by : (m : Bool) → stands t at 45 ≡ m → signed (word_at t at) ≡ given (numeral (word_at t (digits_at m at))) (with_sign m)
   signed_by true e = rw (after e)
-  signed_by false e = plain (word_at t at) (begins_word "-" (big_parts 45 (omega arith)) t at ∙ e)
+  signed_by false e = rw add-zero (plain (word_at t at) (begins_word "-" (big_parts 45 (omega arith)) t at ∙ e))
 
   ends_by : (m : Bool) → stands t at 45 ≡ m → digits_at m at + length (word_at t (digits_at m at)) ≡ at + length (word_at t at)
   ends_by true e = omega (arith, ap length (after e))
-  ends_by false e = refl
+  ends_by false e = rw add-zero
 
   module _ (m : Bool) (e : stands t at 45 ≡ m) where
     pub signed_not : numeral (word_at t (digits_at m at)) ≡ none → signed (word_at t at) ≡ none
     signed_not n = signed_by m e ∙ rw n
 
-    module _ {v end : ℕ} (r : NumeralRead t (digits_at m at) (numerals.Is v end)) where
+    module _ {v end : ℕ} (r : NumeralRead t (digits_at m at) (numeral_is v end)) where
       of : signed (word_at t at) ≡ with_sign m v
       of = signed_by m e ∙ ap (λ o. given o (with_sign m)) r.0
 
       -- the number with its sign is the literal
-      pub signed_is : (v ≡ 0 → m ≡ false) → SignedRead t at (signs.Is v m end)
-      signed_is z = (of ∙ go m z, r.1 ∙ ends_by m e, r.2)
+      pub signed_is : (v ≡ 0 → m ≡ false) → SignedRead t at (signed_as (literal_of m v) end)
+      signed_is z = (of ∙ go m z, r.1 ∙ ends_by m e, r.2, rw (size_of m v) r.3)
         where
           go : (x : Bool) → (v ≡ 0 → x ≡ false) → with_sign x v ≡ some (literal_of x v)
           go true f = rw (lt-ltb 0 v (positive v (λ i. true≢false (f i))))
@@ -222,7 +253,3 @@ module _ (t : List ℕ) (at : ℕ) where
 
       pub minus_zero : v ≡ 0 → m ≡ true → signed (word_at t at) ≡ none
       minus_zero z i = of ∙ rw (z, i)
-
-pub digits_within : (m : Bool) {at n : ℕ} → at < n → digits_at m at ≤ n
-digits_within true h = omega arith
-digits_within false h = omega arith

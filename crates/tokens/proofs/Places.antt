@@ -6,9 +6,16 @@ use Prim.Native.Nat.{ℕ, suc, ◌+◌, ◌<◌, ◌≤◌}
 use native.Mathlib.Omega.{arith}
 use native.Mathlib.Nat.{add-zero, add-suc, suc-add}
 use native.Mathlib.Numerals.{add-one}
-use borrow.Author.Tests.{eqb-true, ne_eqb, ltb-true, ltb-false, not-false}
+use borrow.Author.Tests.{eqb-true, ne_eqb, ltb-true, ltb-false, lt-ltb, le-ltb, not-false}
+use denote.Ref.{Bor}
+use Rattle.std.specs.Slice.{IsItemAt}
+use Rattle.std.proofs.lemmas.Option.{MatchOption-at_some, MatchOption-at_none}
+use Rattle.std.specs.Option.{option_eq, MatchOption, unwrap_or}
+use Rattle.std.specs.List.{AllWithin, HoldsAt}
+use Rattle.std.proofs.lemmas.Iterator.{index_from_first}
+use Rattle.std.specs.Prelude as std
 use lib.Dec.{eqb, ltb}
-use lib.ListN.{length, get_or, drop, length-drop, drop_of_length-le}
+use lib.ListN.{length, get_or, take, drop, length-drop, drop_of_length-le}
 use lib.Seq.{drop-cons, drop-drop}
 use Rattle.meaning.specs.Text.{is, blank, longer}
 use Rattle.tokens.specs.Scan.{parts, word, line, fresh, comment, gap, inside, piece, scan, stands, parted, line_end, word_at, tokens_from, lines_from, Past}
@@ -22,6 +29,10 @@ blank_parts b e = go (is "\n" b) refl
     go : (x : Bool) → is "\n" b ≡ x → x ≡ false
     go true i = sym e ∙ rw (eqb-true b 10 i)
     go false i = refl
+
+pub no_part : (b : ℕ) → (b ≡ 10 → ⊥) → blank b ≡ false → parts b ≡ false
+unfolding parts
+no_part b n e = rw (ne_eqb b 10 n) e
 
 pub or_false_l : (x y : Bool) → (x || y) ≡ false → x ≡ false
 or_false_l false y e = refl
@@ -67,6 +78,34 @@ gap_word place b bs e = rw (or_false_l (is "\n" b) (blank b) e, or_false_r (is "
 fresh_c : (place b : ℕ) (bs : List ℕ) → is "c" b ≡ true → scan fresh place (b ∷ bs) ≡ scan comment (suc place) bs
 unfolding scan
 fresh_c place b bs e = rw e
+
+-- ---- what `get` lends of the text
+
+got : (t : List ℕ) (at : ℕ) (o : std.Option (Bor ℕ)) → IsItemAt t at o → MatchOption o (length t ≤ at) (λ x. (at < length t) × (x.now ≡ get_or t at 0))
+got t at std.None h = h.3
+got t at (std.Some x) h = (h.3.0, h.4 (omega arith) 0)
+
+pub got_some : (t : List ℕ) (at : ℕ) {o : std.Option (Bor ℕ)} (x : Bor ℕ) → IsItemAt t at o → o ≡ std.Some x → (at < length t) × (x.now ≡ get_or t at 0)
+got_some t at {o} x h e = MatchOption-at_some (length t ≤ at) (λ (y : Bor ℕ). (at < length t) × (y.now ≡ get_or t at 0)) x e (got t at o h)
+
+pub got_none : (t : List ℕ) (at : ℕ) {o : std.Option (Bor ℕ)} → IsItemAt t at o → o ≡ std.None → length t ≤ at
+got_none t at {o} h e = MatchOption-at_none (length t ≤ at) (λ (y : Bor ℕ). (at < length t) × (y.now ≡ get_or t at 0)) e (got t at o h)
+
+pub stands_got : (t : List ℕ) (at : ℕ) (o : std.Option (Bor ℕ)) (b : Bor ℕ) → IsItemAt t at o → option_eq (λ x y. eqb x.now y.now) o (std.Some b) ≡ stands t at b.now
+unfolding stands
+stands_got t at o b h = go o (got t at o h)
+  where
+    go : (o : std.Option (Bor ℕ)) → MatchOption o (length t ≤ at) (λ x. (at < length t) × (x.now ≡ get_or t at 0)) → option_eq (λ x y. eqb x.now y.now) o (std.Some b) ≡ (ltb at (length t) && eqb (get_or t at 0) b.now)
+    go std.None g = rw (le-ltb at (length t) g)
+    go (std.Some x) g = rw (lt-ltb at (length t) g.0, g.1)
+
+pub parted_got : (t : List ℕ) (at : ℕ) (o : std.Option (Bor ℕ)) (r : Bool) (P : Bor ℕ → Type 0) → IsItemAt t at o → MatchOption o (r ≡ true) P → ((x : Bor ℕ) → P x → r ≡ parts x.now) → r ≡ parted t at
+unfolding parted
+parted_got t at o r P h e k = go o (got t at o h) e
+  where
+    go : (o : std.Option (Bor ℕ)) → MatchOption o (length t ≤ at) (λ x. (at < length t) × (x.now ≡ get_or t at 0)) → MatchOption o (r ≡ true) P → r ≡ (not (ltb at (length t)) || parts (get_or t at 0))
+    go std.None g e = rw (le-ltb at (length t) g) e
+    go (std.Some x) g e = rw (lt-ltb at (length t) g.0, ← g.1) (k x e)
 
 -- ---- at a place of the text
 
@@ -152,6 +191,23 @@ module _ (t : List ℕ) (at : ℕ) where
       go : (x : Bool) → ltb at (length t) ≡ x → (x && eqb (get_or t at 0) 99) ≡ false → scan fresh at (drop at t) ≡ scan gap at (drop at t)
       go true i f = rw (here (ltb-true at (length t) i)) (fresh_gap at (get_or t at 0) (drop (at + 1) t) f)
       go false i f = rw (there (ltb-false at (length t) i))
+
+-- ---- a word, by the place of the first byte that parts tokens
+
+word_takes : (bs : List ℕ) → take (length (word bs)) bs ≡ word bs
+unfolding word
+word_takes [] = refl
+word_takes (b ∷ bs) = go (parts b) (word_takes bs)
+  where
+    go : (x : Bool) → take (length (word bs)) bs ≡ word bs → take (length (cond x [] (b ∷ word bs))) (b ∷ bs) ≡ cond x [] (b ∷ word bs)
+    go true ih = refl
+    go false ih = ap (λ l. b ∷ l) ih
+
+pub word_found : (bs : List ℕ) (r : std.Option ℕ) → MatchOption r (AllWithin (λ b. parts b ≡ false) bs 0 (length bs)) (λ i. (i < length bs) × HoldsAt (λ b. parts b ≡ true) bs i × AllWithin (λ b. parts b ≡ false) bs 0 i)
+    → take (unwrap_or r (length bs)) bs ≡ word bs
+unfolding word
+word_found bs r m =
+    rw (← index_from_first (λ l. length (word l)) (λ b. parts b ≡ true) (λ b. parts b ≡ false) refl (λ x xs e. rw e) (λ x xs e. rw e (omega arith)) bs r m) (word_takes bs)
 
 -- ---- nothing reaches beyond the text
 

@@ -1,11 +1,11 @@
 -- The header's line and its two numbers.
-use Rattle.std.specs.Prelude.{◌≡◌, Bool, true, not, ◌&&◌, List, [], map, ℕ, ◌<◌, ◌≤◌, eqb, leb, length, get_or, drop}
+use Rattle.std.specs.Prelude.{◌≡◌, Bool, true, not, ◌&&◌, List, [], map, ℕ, ◌<◌, ◌≤◌, eqb, leb, length, get_or, drop, Some, None}
+use Rattle.std.specs.Prelude as std
 use Rattle.std.proofs.Math.Option.{Option, none, some}
 use Rattle.meaning.specs.Lists.{keep, is_empty, given, only}
 use Rattle.meaning.specs.Limits.{small}
 use Rattle.meaning.specs.Text.{is, begins, Piece, cut, tokens, lines, numeral}
-use Rattle.tokens.specs.declared.Header.{Header}
-use Rattle.tokens.specs.declared.Header.TheVariants.{Sizes, Bad}
+use Rattle.tokens.specs.declared.Sizes.{Sizes}
 use Rattle.tokens.specs.Scan.{line, piece, line_end}
 
 -- a line that is no comment and not blank
@@ -38,6 +38,6 @@ sizes_of ts =
     given (numeral (bytes_of ts 1)) (λ m.
     only (eqb (length ts) 2 && leb n small.variables && leb m small.clauses) (n, m)))
 
-abbrev pub head_read : Header → Option (ℕ × ℕ)
-head_read (Sizes n m) = some (n, m)
-head_read Bad = none
+abbrev pub head_read : std.Option Sizes → Option (ℕ × ℕ)
+head_read (Some s) = some (s.variables, s.clauses)
+head_read None = none

@@ -1,12 +1,12 @@
-// DIMACS text to formula words.
+// Tokens, numbers and the header of a DIMACS text.
 #![tactic(auto)]
 
-ghost use Rattle.std.specs.Prelude.{◌≡◌, cond, ◌+◌, ◌-◌, ◌<◌, ◌≤◌, length, drop};
-ghost use Rattle.tokens.specs.Scan.{stands, parted, line_end, word_at, tokens_from, piece, Next, Past};
-ghost use Rattle.tokens.specs.Numbers.{is_digit, Ran, NumeralRead, SignedRead};
+ghost use Rattle.std.specs.Prelude.{◌≡◌, ◌<◌, ◌≤◌, length, drop};
+ghost use Rattle.tokens.specs.Scan.{parts, stands, parted, line_end, word_at, tokens_from, piece, Next, Past};
+ghost use Rattle.tokens.specs.Numbers.{digit, literal_of, NumeralRead, SignedRead, Ran};
 ghost use Rattle.tokens.specs.Header.{OneLine, FirstLine, solid_line, sizes_of, head_read};
 ghost use Rattle.meaning.specs.Limits.{small};
-ghost use Rattle.meaning.specs.Text.{blank, spells, header};
+ghost use Rattle.meaning.specs.Text.{blank, header};
 
 const VARIABLES: usize = 512;
 
@@ -19,36 +19,28 @@ const DIGITS: usize = 5;
 fn is_blank(b: u8) -> bool
     ensures { result ≡ blank b }
 {
-    if b == b' ' {
-        return true;
-    }
-    if b == b'\t' {
-        return true;
-    }
-    b == b'\r'
+    matches!(b, b' ' | b'\t' | b'\r')
+}
+
+// It is no byte of a token.
+fn parts(b: u8) -> bool
+    ensures { result ≡ parts b }
+{
+    b == b'\n' || is_blank(b)
 }
 
 // That byte stands there.
 fn stands_at(text: &[u8], at: usize, b: u8) -> bool
     ensures { result ≡ stands text.now at b }
 {
-    if at < text.len() {
-        text[at] == b
-    } else {
-        false
-    }
+    text.get(at) == Some(&b)
 }
 
 // No token reaches to there.
 fn parted_at(text: &[u8], at: usize) -> bool
     ensures { result ≡ parted text.now at }
 {
-    if at < text.len() {
-        let b = text[at];
-        if b == b'\n' { true } else { is_blank(b) }
-    } else {
-        true
-    }
+    text.get(at).is_none_or(|b| parts(*b))
 }
 
 // ---- lines and tokens
@@ -56,14 +48,12 @@ fn parted_at(text: &[u8], at: usize) -> bool
 pub fn line_end(text: &[u8], start: usize) -> usize
     ensures { result ≡ line_end text.now start }
 {
-    let mut at = start;
-    while at < text.len() {
+    for at in start..text.len() {
         if text[at] == b'\n' {
             return at;
         }
-        at = at + 1;
     }
-    at
+    start.max(text.len())
 }
 
 // From a line's first byte: a comment is passed over up to its line end.
@@ -72,9 +62,10 @@ fn past_comment(text: &[u8], at: usize) -> usize
     ensures { Past text.now at result }
 {
     if stands_at(text, at, b'c') {
-        return line_end(text, at + 1);
+        line_end(text, at + 1)
+    } else {
+        at
     }
-    at
 }
 
 // Where the next token begins, or the text's end.
@@ -82,200 +73,152 @@ pub fn next(text: &[u8], start: usize) -> usize
     requires { start ≤ length text.now }
     ensures { Next text.now start result }
 {
+    // An index: a whole comment is passed over at once.
     let mut at = start;
-    while at < text.len() {
-        let b = text[at];
+    while let Some(&b) = text.get(at) {
         if b == b'\n' {
             at = past_comment(text, at + 1);
+        } else if is_blank(b) {
+            at += 1;
         } else {
-            if is_blank(b) {
-                at = at + 1;
-            } else {
-                return at;
-            }
+            break;
         }
     }
     at
 }
 
+// The token that begins there, empty where none does.
+fn word_at(text: &[u8], at: usize) -> &[u8]
+    requires { at ≤ length text.now }
+    ensures { result.now ≡ word_at text.now at }
+{
+    let rest = &text[at..];
+    let end = rest.iter().position(|b| parts(*b)).unwrap_or(rest.len());
+    &rest[..end]
+}
+
 // ---- numbers
 
-// The value of the digits up to end.
+// An unsigned number, and where its digits end.
 #[derive(Clone, Copy)]
-struct Run {
+struct Numeral {
     value: usize,
     end: usize,
 }
 
-// An unsigned number, and where its token ends.
-#[derive(Clone, Copy)]
-enum Numeral {
-    Is(usize, usize),
-    Not,
-}
-
 // A number with its sign, and where its token ends.
 #[derive(Clone, Copy)]
-pub enum Signed {
-    Is(usize, bool, usize),
-    Not,
+pub struct Signed {
+    pub value: i32,
+    pub end: usize,
 }
 
-// The byte less 48, or 10 for no digit.
-fn digit(b: u8) -> usize
-    ensures { result ≡ cond (is_digit b) (b - 48) 10 }
+fn digit(b: u8) -> Option<usize>
+    ensures { result ≡ digit b }
 {
-    if b < b'0' {
-        return 10;
+    if !b.is_ascii_digit() {
+        return None;
     }
-    if b'9' < b {
-        return 10;
-    }
-    (b - 48) as usize
+    Some(usize::from(b - b'0'))
 }
 
 // Digits from start on, five at most.
-fn digits_from(text: &[u8], start: usize) -> Run
+fn digits_from(text: &[u8], start: usize) -> Numeral
     requires { start ≤ length text.now }
     ensures { Ran text.now start result.value result.end }
 {
-    let mut value: usize = 0;
-    let mut at = start;
-    while at < text.len() {
-        let d = digit(text[at]);
-        if 9 < d {
-            return Run {
-                value: value,
-                end: at,
-            };
-        }
-        if at - start == DIGITS {
-            return Run {
-                value: value,
-                end: at,
-            };
-        }
+    let mut value = 0;
+    let mut end = start;
+    for b in text[start..].iter().take(DIGITS) {
+        let Some(d) = digit(*b) else { break };
         value = 10 * value + d;
-        at = at + 1;
+        end += 1;
     }
-    Run {
-        value: value,
-        end: at,
-    }
+    Numeral { value, end }
 }
 
-fn numeral_at(text: &[u8], start: usize) -> Numeral
+// The number that a token writes, without a sign and without a leading zero. A hint: it runs once for each token.
+#[inline]
+fn numeral_at(text: &[u8], start: usize) -> Option<Numeral>
     requires { start ≤ length text.now }
     ensures { NumeralRead text.now start result }
 {
-    let r = digits_from(text, start);
-    let end = r.end;
-    if end == start {
-        return Numeral::Not;
+    let number = digits_from(text, start);
+    if number.end == start || !parted_at(text, number.end) {
+        return None;
     }
-    if parted_at(text, end) {
-        if end == start + 1 {
-            return Numeral::Is(r.value, end);
-        }
-        if stands_at(text, start, b'0') {
-            return Numeral::Not;
-        }
-        return Numeral::Is(r.value, end);
+    if stands_at(text, start, b'0') && number.end != start + 1 {
+        return None;
     }
-    Numeral::Not
+    Some(number)
 }
 
-fn past_minus(minus: bool, at: usize) -> usize
-    requires { at < 1000000 }
-    ensures { result ≡ cond minus (at + 1) at }
+fn with_sign(value: usize, minus: bool) -> i32
+    requires { value < 1048576 }
+    ensures { result ≡ literal_of minus value }
 {
-    if minus { at + 1 } else { at }
+    let v = value as i32;
+    if minus { -v } else { v }
 }
 
-pub fn number_at(text: &[u8], at: usize) -> Signed
-    requires { (at < length text.now) × (length text.now ≤ 65535) }
+pub fn number_at(text: &[u8], at: usize) -> Option<Signed>
+    requires { at < length text.now }
     ensures { SignedRead text.now at result }
 {
     let minus = stands_at(text, at, b'-');
-    let Numeral::Is(v, end) = numeral_at(text, past_minus(minus, at)) else {
-        return Signed::Not;
+    let Numeral { value, end } = numeral_at(text, at + usize::from(minus))?;
+    let number = Signed {
+        value: with_sign(value, minus),
+        end,
     };
-    if v == 0 {
-        if minus {
-            return Signed::Not;
-        }
-        return Signed::Is(v, minus, end);
+    if value == 0 && minus {
+        None
+    } else {
+        Some(number)
     }
-    Signed::Is(v, minus, end)
 }
 
 // ---- the header
 
-// n and m.
+// What the header says. formula::Sizes says it of words: the two crates do not know one another.
 #[derive(Clone, Copy)]
-pub enum Header {
-    Sizes(usize, usize),
-    Bad,
-}
-
-// The token p, the token cnf.
-fn p_stands(line: &[u8], at: usize) -> bool
-    ensures { result ≡ spells "p" (word_at line.now at) }
-{
-    if stands_at(line, at, b'p') {
-        return parted_at(line, at + 1);
-    }
-    false
-}
-
-fn cnf_stands(line: &[u8], at: usize) -> bool
-    ensures { result ≡ spells "cnf" (word_at line.now at) }
-{
-    if stands_at(line, at, b'c') {
-        if stands_at(line, at + 1, b'n') {
-            if stands_at(line, at + 2, b'f') {
-                return parted_at(line, at + 3);
-            }
-        }
-    }
-    false
+pub struct Sizes {
+    pub variables: usize,
+    pub clauses: usize,
 }
 
 // The two numbers, and no token after them.
-fn sizes(line: &[u8], at: usize) -> Header
+fn sizes_at(line: &[u8], at: usize) -> Option<Sizes>
     requires { at ≤ length line.now }
     ensures { head_read result ≡ sizes_of (tokens_from line.now at) }
 {
-    let Numeral::Is(n, a) = numeral_at(line, next(line, at)) else {
-        return Header::Bad;
-    };
-    let Numeral::Is(m, b) = numeral_at(line, next(line, a)) else {
-        return Header::Bad;
-    };
-    if next(line, b) < line.len() {
-        return Header::Bad;
+    let variables = numeral_at(line, next(line, at))?;
+    let clauses = numeral_at(line, next(line, variables.end))?;
+    if next(line, clauses.end) < line.len() {
+        return None;
     }
-    if VARIABLES < n {
-        return Header::Bad;
+    if variables.value > VARIABLES || clauses.value > CLAUSES {
+        return None;
     }
-    if CLAUSES < m {
-        return Header::Bad;
-    }
-    Header::Sizes(n, m)
+    Some(Sizes {
+        variables: variables.value,
+        clauses: clauses.value,
+    })
 }
 
 // The header, in the line from there to the end.
-pub fn header_of(line: &[u8], at: usize) -> Header
+pub fn header_of(line: &[u8], at: usize) -> Option<Sizes>
     requires { OneLine line.now at }
     ensures { head_read result ≡ header small (piece at (drop at line.now)) }
 {
-    if p_stands(line, at) {
-        let a = next(line, at + 1);
-        if cnf_stands(line, a) {
-            return sizes(line, a + 3);
-        }
+    if word_at(line, at) != b"p".as_slice() {
+        return None;
     }
-    Header::Bad
+    let cnf = next(line, at + 1);
+    if word_at(line, cnf) != b"cnf".as_slice() {
+        return None;
+    }
+    sizes_at(line, cnf + 3)
 }
 
 // ---- the header's line
@@ -285,26 +228,21 @@ fn solid(line: &[u8], at: usize) -> bool
     requires { OneLine line.now at }
     ensures { result ≡ solid_line (piece at (drop at line.now)) }
 {
-    if stands_at(line, at, b'c') {
-        return false;
-    }
-    next(line, at) < line.len()
+    !stands_at(line, at, b'c') && next(line, at) < line.len()
 }
 
 // Where the first line begins that is neither comment nor blank, or the text's end.
 pub fn first_line(text: &[u8]) -> usize
     ensures { FirstLine text.now result }
 {
-    let mut at: usize = 0;
+    // An index: it goes from line to line, and lines differ in length.
+    let mut at = 0;
     while at < text.len() {
         let end = line_end(text, at);
         if solid(&text[..end], at) {
-            return at;
+            break;
         }
-        if end == text.len() {
-            return end;
-        }
-        at = end + 1;
+        at = text.len().min(end + 1);
     }
     at
 }

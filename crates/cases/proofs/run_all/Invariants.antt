@@ -1,8 +1,6 @@
-use Rattle.std.proofs.Common.{◌≡◌, ◌-◌, ◌≤◌, length}
+use Rattle.std.proofs.Common.{◌≤◌}
 use Rattle.cases.proofs.run_all.Given as goal
 
+-- At most one wrong case in each turn.
 abbrev pub invariant-loop-k : goal.invariant-loop-k
-invariant-loop-k g l = (l.k ≤ 1000000) × (l.wrong ≤ l.k) × (length l.window ≡ length l.initial.window)
-
-abbrev pub decreases-loop-k : goal.decreases-loop-k
-decreases-loop-k g l = 1000000 - l.k
+invariant-loop-k g l = l.wrong ≤ l.k

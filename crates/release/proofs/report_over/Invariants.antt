@@ -1,10 +1,6 @@
-use Prim.Native.Nat.{◌≤◌, ◌-◌}
 use Rattle.release.proofs.Turn.{Over}
 use Rattle.release.proofs.report_over.Given as goal
 
 -- `release::report_over` meets its contract: the figures of the answers passed, one more in each turn. Assumes nothing.
 abbrev pub invariant-loop-i : goal.invariant-loop-i
-invariant-loop-i l = (l.i ≤ l.count) × Over l.answers l.i l.figures
-
-abbrev pub decreases-loop-i : goal.decreases-loop-i
-decreases-loop-i l = l.count - l.i
+invariant-loop-i l = Over l.answers l.i l.figures

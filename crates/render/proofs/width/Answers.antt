@@ -1,15 +1,9 @@
-use mathlib.Core.Path.{ap}
-use native.Mathlib.Omega.{arith}
-use lib.ListN.{length, length-append}
-use Rattle.render.proofs.Digits.{last_digit, digit_before, few_digits}
+use Rattle.std.proofs.Common.{arith}
+use Rattle.render.proofs.Digits.{how_many_digits}
 use Rattle.render.proofs.width.Goals as goal
 
-pub overflow_add-digits : goal.overflow_add-digits
-overflow_add-digits c = omega (arith, few_digits c.args.number)
-
-pub loop-rest-preserved : goal.loop-rest-preserved
-loop-rest-preserved c =
-    omega (arith, simp length-append at (ap length (digit_before c.loop-rest.rest c.loop-rest.invariant.1 c.loop-rest-test.true)))
-
-pub returns : goal.returns
-returns c = omega (arith, ap length (last_digit c.loop-rest.rest c.loop-rest-test.false), few_digits c.args.number)
+pub returns-clause-value : goal.returns-clause-value
+returns-clause-value c =
+    how_many_digits c.args.number c.ilog10.result (omega arith)
+    (rw c.max.ensures at c.ilog10.ensures.power_le)
+    (rw c.max.ensures at c.ilog10.ensures.next_power_gt)

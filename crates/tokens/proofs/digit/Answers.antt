@@ -1,15 +1,12 @@
-use Rattle.tokens.specs.Numbers.{is_digit}
-use borrow.Author.Tests.{le-leb, lt-leb}
+use Rattle.std.proofs.Common.{arith}
+use Rattle.std.proofs.lemmas.Bool.Decides.{nat_tests}
+use Rattle.tokens.specs.Numbers.{digit, is_digit}
 use Rattle.tokens.proofs.digit.Goals as goal
 
-pub returns-then-b-lt48 : goal.returns-then-b-lt48
-unfolding is_digit
-returns-then-b-lt48 c = simp (lt-leb 48 _ c.if-b-lt48.true)
-
-pub returns-then-b-gt57 : goal.returns-then-b-gt57
-unfolding is_digit
-returns-then-b-gt57 c = simp (le-leb 48 _ c.if-b-lt48.false, lt-leb _ 57 c.if-b-gt57.true)
+pub returns-then-not-is_ascii_digit : goal.returns-then-not-is_ascii_digit
+unfolding digit is_digit
+returns-then-not-is_ascii_digit c = grind (arith, nat_tests)
 
 pub returns : goal.returns
-unfolding is_digit
-returns c = simp (le-leb 48 _ c.if-b-lt48.false, le-leb _ 57 c.if-b-gt57.false)
+unfolding digit is_digit
+returns c = grind (arith, nat_tests)

@@ -1,10 +1,8 @@
 use Rattle.tokens.specs.Numbers.{Running}
 use lib.ListN.{length}
-use Prim.Native.Nat.{◌-◌}
+use mathlib.Core.Path.{◌≡◌}
+use Prim.Native.Nat.{◌+◌}
 use Rattle.tokens.proofs.digits_from.Given as goal
 
-abbrev pub invariant-loop-at : goal.invariant-loop-at
-invariant-loop-at l = Running l.text l.start l.value l.at
-
-abbrev pub decreases-loop-at : goal.decreases-loop-at
-decreases-loop-at l = length l.text - l.at
+abbrev pub invariant-loop-b : goal.invariant-loop-b
+invariant-loop-b l = (l.end ≡ l.start + length l.yielded) × Running l.text l.start l.value l.end

@@ -1,4 +1,5 @@
-use Rattle.tokens.proofs.First.{lines_all, ends_at, ends_one, found, at_end, next_line, ends_onward}
+use Rattle.tokens.proofs.First.{lines_all, ends_at, ends_one, found, next_line, ends_onward}
+use Rattle.tokens.proofs.Places.{line_within}
 use native.Mathlib.Omega.{arith}
 use Rattle.tokens.proofs.first_line.Goals as goal
 
@@ -15,20 +16,13 @@ pub returns-then-solid : goal.returns-then-solid
 returns-then-solid c =
     found _ _ c.loop-at.invariant.0 c.line_end-end.ensures c.loop-at.invariant.1 c.solid.ensures c.if-solid.true
 
-pub returns-then-end-text : goal.returns-then-end-text
-returns-then-end-text c =
-    at_end _ _ c.loop-at.invariant.0 c.line_end-end.ensures c.loop-at.invariant.1 c.solid.ensures c.if-solid.false c.if-end-text.true
-
-pub overflow_add-at : goal.overflow_add-at
-overflow_add-at c =
-    let n = next_line _ _ c.loop-at.invariant.0 c.line_end-end.ensures c.loop-at.invariant.1 c.solid.ensures c.if-solid.false c.if-end-text.false in
-    omega (arith, n.0)
+pub overflow_add-end : goal.overflow_add-end
+overflow_add-end c = omega (arith, c.line_end-end.ensures, line_within c.args.text.now c.loop-at.at c.loop-at.invariant.0)
 
 pub loop-at-smaller : goal.loop-at-smaller
-loop-at-smaller c =
-    let n = next_line _ _ c.loop-at.invariant.0 c.line_end-end.ensures c.loop-at.invariant.1 c.solid.ensures c.if-solid.false c.if-end-text.false in
-    omega (arith, n.0, ends_onward _ _ c.loop-at.invariant.0 c.line_end-end.ensures)
+loop-at-smaller c = omega (arith, ends_onward _ _ c.loop-at.invariant.0 c.line_end-end.ensures)
 
 pub loop-at-preserved : goal.loop-at-preserved
 loop-at-preserved c =
-    next_line _ _ c.loop-at.invariant.0 c.line_end-end.ensures c.loop-at.invariant.1 c.solid.ensures c.if-solid.false c.if-end-text.false
+    rw c.min-at.ensures
+    (next_line _ _ c.loop-at.invariant.0 c.line_end-end.ensures c.loop-at.invariant.1 c.solid.ensures c.if-solid.false)

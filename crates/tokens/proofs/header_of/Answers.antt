@@ -1,21 +1,25 @@
-use Rattle.tokens.proofs.Heads.{p_within, cnf_within, header_p_no, header_cnf_no, header_yes}
-use mathlib.Core.Path.{sym, ◌∙◌}
+use Rattle.tokens.proofs.Heads.{p_within, cnf_within, header_p_no, header_cnf_no, header_yes, spelled}
+use mathlib.Core.Bool.{not}
+use mathlib.Core.Path.{ap, sym, ◌∙◌}
 use Rattle.tokens.proofs.header_of.Goals as goal
 
-pub next-a-requires : goal.next-a-requires
-next-a-requires c = p_within c.requires (sym c.p_stands.ensures ∙ c.if-p_stands.true)
+pub returns-then-ne : goal.returns-then-ne
+returns-then-ne c = header_p_no c.requires (spelled c.ne.ensures c.word_at.ensures c.as_slice.ensures ∙ ap not c.if-ne.true)
 
-pub sizes-requires : goal.sizes-requires
-sizes-requires c =
-    cnf_within c.requires (sym c.p_stands.ensures ∙ c.if-p_stands.true) c.next-a.ensures (sym c.cnf_stands.ensures ∙ c.if-cnf_stands.true)
+pub next-cnf-requires : goal.next-cnf-requires
+next-cnf-requires c = p_within c.requires (spelled c.ne.ensures c.word_at.ensures c.as_slice.ensures ∙ ap not c.if-ne.false)
 
-pub returns-then-cnf_stands : goal.returns-then-cnf_stands
-returns-then-cnf_stands c =
-    c.sizes.ensures ∙ sym (header_yes c.requires (sym c.p_stands.ensures ∙ c.if-p_stands.true) c.next-a.ensures (sym c.cnf_stands.ensures ∙ c.if-cnf_stands.true))
+pub returns-then-ne-2 : goal.returns-then-ne-2
+returns-then-ne-2 c =
+    let p = spelled c.ne.ensures c.word_at.ensures c.as_slice.ensures ∙ ap not c.if-ne.false in
+    header_cnf_no c.requires p c.next-cnf.ensures (spelled c.ne-2.ensures c.word_at-2.ensures c.as_slice-2.ensures ∙ ap not c.if-ne-2.true)
 
-pub returns-else-cnf_stands : goal.returns-else-cnf_stands
-returns-else-cnf_stands c =
-    header_cnf_no c.requires (sym c.p_stands.ensures ∙ c.if-p_stands.true) c.next-a.ensures (sym c.cnf_stands.ensures ∙ c.if-cnf_stands.false)
+pub sizes_at-requires : goal.sizes_at-requires
+sizes_at-requires c =
+    let p = spelled c.ne.ensures c.word_at.ensures c.as_slice.ensures ∙ ap not c.if-ne.false in
+    cnf_within c.requires p c.next-cnf.ensures (spelled c.ne-2.ensures c.word_at-2.ensures c.as_slice-2.ensures ∙ ap not c.if-ne-2.false)
 
-pub returns-else-p_stands : goal.returns-else-p_stands
-returns-else-p_stands c = header_p_no c.requires (sym c.p_stands.ensures ∙ c.if-p_stands.false)
+pub returns : goal.returns
+returns c =
+    let p = spelled c.ne.ensures c.word_at.ensures c.as_slice.ensures ∙ ap not c.if-ne.false in
+    c.sizes_at.ensures ∙ sym (header_yes c.requires p c.next-cnf.ensures (spelled c.ne-2.ensures c.word_at-2.ensures c.as_slice-2.ensures ∙ ap not c.if-ne-2.false))

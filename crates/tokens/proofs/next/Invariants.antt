@@ -4,8 +4,8 @@ use mathlib.Core.Path.{◌≡◌}
 use Prim.Native.Nat.{◌-◌, ◌≤◌}
 use Rattle.tokens.proofs.next.Given as goal
 
-abbrev pub invariant-loop-at : goal.invariant-loop-at
-invariant-loop-at l = (l.start ≤ l.at) × (l.at ≤ length l.text) × (tokens_from l.text l.start ≡ tokens_from l.text l.at)
+abbrev pub invariant-loop-b : goal.invariant-loop-b
+invariant-loop-b l = (l.start ≤ l.at) × (l.at ≤ length l.text) × (tokens_from l.text l.start ≡ tokens_from l.text l.at)
 
-abbrev pub decreases-loop-at : goal.decreases-loop-at
-decreases-loop-at l = length l.text - l.at
+abbrev pub decreases-loop-b : goal.decreases-loop-b
+decreases-loop-b l = length l.text - l.at
