@@ -10,7 +10,7 @@
 // number and from where to where it goes in the trace, three bytes each. Places that are not listed must hold what they held before the call.
 #![tactic(auto)]
 
-ghost use Rattle.std.specs.Prelude.{◌≤◌, length};
+ghost use Rattle.std.specs.Prelude.{◌^◌, ◌<◌, ◌≤◌, length};
 
 use std::fs::File;
 use std::io::{Read, Write};
@@ -89,16 +89,24 @@ fn part<T>(all: &[T], from: usize, to: usize) -> &[T] {
 }
 
 // The number of so many bytes from a place on, low byte first; bytes beyond the end count as 0.
-fn number(bytes: &[u8], at: usize, count: usize) -> usize {
-    let end = bytes.len().min(at.saturating_add(count));
-    part(bytes, at, end)
-        .iter()
-        .rev()
-        .fold(0, |number, byte| (number << 8) | usize::from(*byte))
+fn number(bytes: &[u8], at: usize, count: usize) -> usize
+    ensures { result < 256 ^ count }
+{
+    let mut number = 0usize;
+    for i in 0..count {
+        let byte = bytes
+            .get(at.saturating_add(count - 1 - i))
+            .copied()
+            .unwrap_or(0);
+        number = number.wrapping_mul(256).wrapping_add(usize::from(byte));
+    }
+    number
 }
 
 // The number of three bytes that stands behind so many others.
-fn three(bytes: &[u8], others: usize) -> usize {
+fn three(bytes: &[u8], others: usize) -> usize
+    ensures { result ≤ 16777215 }
+{
     number(bytes, others.saturating_mul(3), 3)
 }
 
@@ -179,10 +187,12 @@ fn word_room() -> [i16; WORDS] {
 // The words of a part, all low bytes first, and then what a room holds before the call.
 fn words_of(part: &[u8]) -> [i16; WORDS] {
     let (low, high) = part.split_at(part.len() / 2);
-    array::from_fn(|i| match (low.get(i), high.get(i)) {
-        (Some(low), Some(high)) => words::word_of(*low, *high),
-        _ => WORD_BEFORE,
-    })
+    let mut room = [WORD_BEFORE; WORDS];
+    // An index: a room that is lent would be copied once more.
+    for i in 0..low.len().min(WORDS) {
+        room[i] = words::word_of(low[i], high[i]);
+    }
+    room
 }
 
 // ---- places

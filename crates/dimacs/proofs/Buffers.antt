@@ -1,54 +1,75 @@
 -- A literal put in its place, and a clause written behind others. Assumes nothing.
 use mathlib.Core.Path.{◌≡◌, refl, sym, ap, ap₂, ◌∙◌}
 use mathlib.Core.List.{List, [], ◌∷◌, ◌++◌}
-use Prim.Native.Nat.{ℕ, ◌+◌, ◌-◌, ◌<◌, ◌≤◌}
+use Prim.Native.Nat.{ℕ, suc, ◌+◌, ◌-◌, ◌<◌, ◌≤◌}
 use native.Mathlib.Omega.{arith}
 use native.Mathlib.Numerals.{add-one}
-use borrow.Rule.Slice.PartMut.{put_mid, mid_of}
+use borrow.Rule.Slice.PartMut.{put_mid}
 use lib.IntN.{ℤ, pos}
-use lib.ListN.{length, take, drop, set, length-set, length-append, length-drop}
-use lib.Seq.{take-set-le, take-take, length-take-le, take-suc-set, append_snoc, length-paste}
-use Rattle.std.proofs.lemmas.List.{take_at, drop_at, drop-append-le}
-use Rattle.std.proofs.lemmas.Slice.{take-put_mid, put_mid-paste, between_is}
+use lib.ListN.{length, get_or, take, drop, set, length-set, length-take, take-append-drop, drop_of_length-le}
+use lib.Seq.{take-set-le, drop-set-lt, drop-cons, get_or-take, take-take, length-take-le, get_or-set_same, take-set-lt, take-suc-set, append_snoc, length-paste}
+use Rattle.std.proofs.lemmas.Slice.{take-put_mid, put_mid-paste}
 use Rattle.dimacs.specs.Formed.{Closed}
 use Rattle.dimacs.specs.Clause.{Spliced}
 
 put_mid_length : (a k : ℕ) (xs ys : List ℤ) → a + k ≤ length xs → length ys ≡ k → length (put_mid a k xs ys) ≡ length xs
 put_mid_length a k xs ys h e = ap length (put_mid-paste a k xs ys ys k refl refl (sym e)) ∙ length-paste xs a ys k h (omega (arith, e))
 
--- ---- a literal behind the others, turned to its place
+-- ---- moving up
 
-module _ (C : List ℤ) (k at : ℕ) (w : ℤ) (h : k < length C) (i : at ≤ k) where
-  -- the buffer with it, and the part that is turned
-  abbrev E : List ℤ
-  E = set C k w
+-- down to i, the literals of C stand one place higher in D
+pub record Moved (C : List ℤ) (k i : ℕ) (D : List ℤ) : Type 0 where
+  pub as_long : length D ≡ length C
+  pub low : take i D ≡ take i C
+  pub high : drop (i + 1) (take (k + 1) D) ≡ drop i (take k C)
 
-  abbrev part : List ℤ
-  part = mid_of at (k + 1 - at) E
+cut_off : (l : List ℤ) (n : ℕ) → drop n (take n l) ≡ []
+cut_off l n = let h : length (take n l) ≤ n = omega (arith, length-take n l) in drop_of_length-le (take n l) h
 
-  -- what moves up
-  abbrev X : List ℤ
-  X = drop at (take k C)
+module _ (C : List ℤ) (k : ℕ) (h : k < length C) where
+  pub moved_none : Moved C k k C
+  moved_none = record { as_long = refl; low = refl; high = cut_off C (k + 1) ∙ sym (cut_off C k) }
 
-  X_length : length X ≡ k - at
-  X_length = length-drop at (take k C) ∙ ap (λ n. n - at) (length-take-le k C (omega arith))
+  module _ {D : List ℤ} {i : ℕ} (m : Moved C k i D) where
+    -- the first k + 1 places of D, and one of them set
+    long : length (take (k + 1) D) ≡ k + 1
+    long = length-take-le (k + 1) D (omega (arith, m.as_long))
 
-  part_is : part ≡ X ++ w ∷ []
-  part_is =
-      between_is E at (k + 1) ∙ ap (λ n. drop at (take n E)) (add-one k) ∙ ap (drop at) (take-suc-set C k w h)
-      ∙ drop-append-le at (take k C) (w ∷ []) (omega (arith, length-take-le k C (omega arith)))
+    after_set : (x : ℤ) → i ≤ k → drop i (take (k + 1) (set D i x)) ≡ x ∷ drop i (take k C)
+    after_set x hi =
+        let l : i < length (take (k + 1) D) = omega (arith, long) in
+        let l' : i < length (set (take (k + 1) D) i x) = omega (arith, long, length-set (take (k + 1) D) i x) in
+        ap (drop i) (take-set-lt (k + 1) D i x (omega arith))
+        ∙ drop-cons (set (take (k + 1) D) i x) i (pos 0) l'
+        ∙ ap₂ ◌∷◌ (get_or-set_same (take (k + 1) D) i x (pos 0) l) (drop-set-lt (suc i) (take (k + 1) D) i x (omega arith) ∙ ap (λ n. drop n (take (k + 1) D)) (sym (add-one i)) ∙ m.high)
 
-  pub turned : {ys : List ℤ} → ys ≡ drop (length part - 1) part ++ take (length part - 1) part → Spliced C k at w (put_mid at (k + 1 - at) E ys)
-  turned {ys} e =
-      let n : length part - 1 ≡ length X = omega (arith, ap length part_is, length-append X (w ∷ [])) in
-      let y : ys ≡ w ∷ X = e ∙ ap₂ (λ m p. drop m p ++ take m p) n part_is ∙ ap₂ ◌++◌ (drop_at X (w ∷ []) _ refl) (take_at X (w ∷ []) _ refl) in
-      let l : length ys ≡ k + 1 - at = omega (arith, ap length y, X_length) in
-      record {
-        as_long = put_mid_length at (k + 1 - at) E ys (omega (arith, length-set C k w)) l ∙ length-set C k w;
-        literals =
-            take-put_mid at (k + 1 - at) E ys (k + 1) (omega (arith, l)) (omega (arith, length-set C k w))
-            ∙ ap₂ ◌++◌ (take-set-le at C k w i ∙ sym (take-take at k C i)) y;
-      }
+    module _ (lo : 0 < i) (hi : i ≤ k) where
+      abbrev x : ℤ
+      x = get_or D (i - 1) (pos 0)
+
+      before : x ≡ get_or (take k C) (i - 1) (pos 0)
+      before =
+          sym (get_or-take i D (i - 1) (pos 0) (omega arith)) ∙ ap (λ l. get_or l (i - 1) (pos 0)) m.low ∙ get_or-take i C (i - 1) (pos 0) (omega arith)
+          ∙ sym (get_or-take k C (i - 1) (pos 0) (omega arith))
+
+      pub moved_more : Moved C k (i - 1) (set D i x)
+      moved_more =
+          let e : i - 1 + 1 ≡ i = omega arith in
+          let f : suc (i - 1) ≡ i = omega arith in
+          let l : i - 1 < length (take k C) = omega (arith, length-take-le k C (omega arith)) in
+          record {
+            as_long = length-set D i x ∙ m.as_long;
+            low = take-set-le (i - 1) D i x (omega arith) ∙ sym (take-take (i - 1) i D (omega arith)) ∙ ap (take (i - 1)) m.low ∙ take-take (i - 1) i C (omega arith);
+            high = rw e (after_set x hi ∙ ap₂ ◌∷◌ before (ap (λ n. drop n (take k C)) (sym f)) ∙ sym (drop-cons (take k C) (i - 1) (pos 0) l));
+          }
+
+    pub moved_set : (w : ℤ) → i ≤ k → Spliced C k i w (set D i w)
+    moved_set w hi = record {
+      as_long = length-set D i w ∙ m.as_long;
+      literals =
+          sym (take-append-drop i (take (k + 1) (set D i w)))
+          ∙ ap₂ ◌++◌ (take-take i (k + 1) (set D i w) (omega arith) ∙ take-set-le i D i w (omega arith) ∙ m.low ∙ sym (take-take i k C hi)) (after_set w hi);
+    }
 
 -- ---- a clause that has ended
 

@@ -2,12 +2,12 @@
 use mathlib.Core.Path.{◌≡◌, refl, sym, ap, ◌∙◌}
 use mathlib.Core.Bool.{Bool, true, false, ◌||◌, true≢false}
 use mathlib.Core.List.{List, [], ◌∷◌}
-use Prim.Native.Nat.{ℕ, zero, suc, ◌+◌, ◌<◌, ◌≤◌}
+use Prim.Native.Nat.{ℕ, zero, suc, ◌+◌, ◌-◌, ◌<◌, ◌≤◌}
 use native.Mathlib.Omega.{arith}
 use borrow.Author.Tests.{lt-ltb, le-ltb, ne_eqb, eq-eqb}
 use lib.Dec.{T, eqb, ltb, ltb→lt}
 use lib.IntN.{ℤ, pos}
-use lib.ListN.{length, take, length-take}
+use lib.ListN.{length, get_or, take, length-take}
 use Rattle.meaning.specs.Meaning.{Literal, Clause, var, named}
 use Rattle.meaning.specs.Text.{insert}
 use Rattle.meaning.proofs.Formed.{rises_from}
@@ -19,6 +19,7 @@ use Rattle.std.specs.List.Sorted.{IsNonDecreasingBy, IsPartitionPoint}
 use Rattle.std.specs.Ordering.{nat_cmp, ordering_index}
 use Rattle.std.proofs.Common.{Ordering, Less, Equal, Greater}
 use Rattle.std.proofs.lemmas.Bool.Decides.{nat_tests}
+use Rattle.std.proofs.lemmas.List.{get_or_default}
 use Rattle.std.proofs.lemmas.List.Sorted.{IsNonDecreasingBy-from_default}
 
 -- ---- rising variables
@@ -92,10 +93,38 @@ is_equal a v e = grind (arith, nat_tests)
 is_greater : (a v : ℕ) → nat_cmp a v ≡ Greater → v < a
 is_greater a v e = grind (arith, nat_tests)
 
+-- where the answers rise, what stands before a lesser one is less, and what stands after a greater one greater
+less_before : (a b v : ℕ) → ordering_index (nat_cmp a v) ≤ ordering_index (nat_cmp b v) → b < v → nat_cmp a v ≡ Less
+less_before a b v h l = grind (arith, nat_tests)
+
+greater_after : (a b v : ℕ) → ordering_index (nat_cmp a v) ≤ ordering_index (nat_cmp b v) → v < a → nat_cmp b v ≡ Greater
+greater_after a b v h l = grind (arith, nat_tests)
+
+-- the place for a variable beyond the last one, and before the first
+module _ (C : List ℤ) (v : ℕ) (h : 1 ≤ length C) (r : IsNonDecreasingBy (λ y. ordering_index (nat_cmp (var y) v)) C) where
+  abbrev Point : ℕ → Type 0
+  Point at = IsPartitionPoint (λ y. nat_cmp (var y) v ≡ Less) (λ y. nat_cmp (var y) v ≡ Greater) C at
+
+  pub at_end : var_at C (length C - 1) < v → Point (length C)
+  at_end l = (
+    λ k d _ i.
+        let e : get_or C (length C - 1) (pos 0) ≡ get_or C (length C - 1) d = get_or_default C (length C - 1) (pos 0) d (omega arith) in
+        less_before _ _ v (r k (length C - 1) d (omega arith) (omega arith)) (rw (ap var e) at l),
+    λ k d i j. absurd (omega arith),
+  )
+
+  pub at_start : v < var_at C 0 → Point 0
+  at_start l = (
+    λ k d i j. absurd (omega arith),
+    λ k d _ i.
+        let e : get_or C 0 (pos 0) ≡ get_or C 0 d = get_or_default C 0 (pos 0) d (omega arith) in
+        greater_after _ _ v (r 0 k d (omega arith) i) (rw (ap var e) at l),
+  )
+
 module _ {C : List ℤ} {k : ℕ} (z : Literal) (low : 0 < var z) (b : Begun C k) where
   -- a place among the literals, where there are fewer than 64
-  pub within_all : {at : ℕ} → at ≤ length (take k C) → (k ≡ 64 → ⊥) → (k < length C) × (at ≤ k)
-  within_all h n = (omega (arith, b.long, b.few, n), omega (arith, length-take k C))
+  pub within_all : {at : ℕ} → at ≤ length (take k C) → (k ≡ 64 → ⊥) → (at ≤ k) × (k < length C)
+  within_all h n = (omega (arith, length-take k C), omega (arith, b.long, b.few, n))
 
   abbrev by : ℤ → Ordering
   by y = nat_cmp (var y) (var z)

@@ -2,11 +2,13 @@
 #![tactic(auto)]
 
 ghost use Rattle.std.specs.Prelude.{◌≡◌, ◌+◌, ◌*◌, ◌<◌, ◌≤◌, length};
+ghost use Rattle.std.specs.List.Sorted.{IsSearchInRange, IsBinarySearchResult};
+ghost use Rattle.std.specs.Ordering.{nat_cmp};
 ghost use Rattle.meaning.specs.Limits.{small};
 ghost use Rattle.meaning.specs.Meaning.{var};
 ghost use Rattle.meaning.specs.Text.{lines, headed};
 ghost use Rattle.meaning.specs.Promise.{TextRead};
-ghost use Rattle.dimacs.specs.Clause.{Begun, Added};
+ghost use Rattle.dimacs.specs.Clause.{Spliced, Begun, Added};
 ghost use Rattle.dimacs.specs.Formed.{Closed, clauses_from, Roomy, Headed, Formed, told};
 
 use meaning::TextAnswer;
@@ -38,6 +40,37 @@ struct Fault(Reason, usize);
 
 // ---- a clause's literals, in rising order
 
+// What literals are put in order by: the variable.
+fn order(literal: &i16) -> usize
+    ensures { result ≡ var literal.now }
+{
+    words::magnitude(*literal)
+}
+
+// Where a variable stands, or else where it belongs. Most texts have literals in rising order, some in falling order: the last one is asked
+// first, then the first.
+fn spot(literals: &[i16], v: usize) -> Result<usize, usize>
+    ensures bound { IsSearchInRange result (length literals.now) }
+    ensures position { IsBinarySearchResult (λ y. nat_cmp (var y) v) literals.now result }
+{
+    match literals {
+        [.., last] if order(last) < v => Err(literals.len()),
+        [first, ..] if v < order(first) => Err(0),
+        _ => literals.binary_search_by_key(&v, order),
+    }
+}
+
+// The literals from a place on move up by one, and one more takes the place. By a loop, since rotate_right calls memmove.
+fn splice(clause: &mut [i16], k: usize, at: usize, literal: i16)
+    requires { (at ≤ k) × (k < length clause.old) }
+    ensures { Spliced clause.old k at literal clause.new }
+{
+    for i in (at..k).rev() {
+        clause[i + 1] = clause[i];
+    }
+    clause[at] = literal;
+}
+
 // One literal more, unless its variable is there already or it is the 65th; a bool, for the caller knows the place. Fixed memory: the clause
 // has k literals.
 fn add(clause: &mut [i16], k: usize, literal: i16) -> bool
@@ -45,18 +78,28 @@ fn add(clause: &mut [i16], k: usize, literal: i16) -> bool
     ensures { Added clause.old k literal result clause.new }
 {
     let v = words::magnitude(literal);
-    let Err(at) = clause[..k].binary_search_by_key(&v, |w| words::magnitude(*w)) else {
+    let Err(at) = spot(&clause[..k], v) else {
         return false;
     };
     if k == CLAUSE_LENGTH {
         return false;
     }
-    clause[k] = literal;
-    clause[at..k + 1].rotate_right(1);
+    splice(clause, k, at, literal);
     true
 }
 
 // ---- the clauses
+
+// Copies words, by a loop that is not inlined: so the library for C needs no memcpy from its host.
+#[inline(never)]
+fn copied(from: &[i16], to: &mut [i16])
+    requires { length to.old ≡ length from.now }
+    ensures { to.new ≡ from.now }
+{
+    for i in 0..from.len() {
+        to[i] = from[i];
+    }
+}
 
 // A clause that has ended: its length and its literals.
 fn close(clause: &[i16], words: &mut [i16], used: usize)
@@ -65,7 +108,7 @@ fn close(clause: &[i16], words: &mut [i16], used: usize)
 {
     let start = used + 1;
     words[used] = clause.len() as i16;
-    words[start..start + clause.len()].copy_from_slice(clause);
+    copied(clause, &mut words[start..start + clause.len()]);
 }
 
 // The clauses from a place on. The clause that has not ended stands in a buffer of its own.
@@ -138,7 +181,7 @@ fn read_in<const N: usize>(text: &[u8], room: &mut [i16]) -> Result<usize, Fault
     if room.len() < used || WORDS < used {
         return Err(Fault(Reason::Room, text.len()));
     }
-    room[..used].copy_from_slice(&words[..used]);
+    copied(&words[..used], &mut room[..used]);
     Ok(used)
 }
 

@@ -8,7 +8,7 @@ use Rattle.meaning.specs.declared.Verdict.{Verdict}
 use Rattle.meaning.specs.declared.Verdict.TheVariants as verdict
 use Rattle.meaning.specs.Promise.{answer_places, answer_of}
 use Rattle.release.specs.declared.ReportFault.TheVariants.{AnswersForm, SumLarge}
-use Rattle.release.specs.Report.{Totals, total_place, most_sum, most_answers, smallest_of, largest_of, report_over, report_of}
+use Rattle.release.specs.Report.{Totals, fault_number, total_place, most_sum, most_answers, smallest_of, largest_of, report_over, report_of}
 
 -- the answers of verdicts, one after another
 abbrev said : List Verdict → List ℕ
@@ -43,6 +43,9 @@ pub record Examples : Type 0 where
   pub largest_sum : report_of (said (verdict.Accepted most_sum ∷ verdict.Accepted 0 ∷ [])) ≡ figures 2 0 0 2 most_sum 1 most_sum
   pub too_large : report_of (said (verdict.Accepted most_sum ∷ verdict.Accepted 1 ∷ [])) ≡ Err SumLarge
   pub form_first : report_of (said (verdict.Accepted most_sum ∷ verdict.Accepted 1 ∷ []) ++ 0 ∷ []) ≡ Err AnswersForm
+  -- the refusals by their numbers
+  pub form_number : fault_number AnswersForm ≡ 33
+  pub large_number : fault_number SumLarge ≡ 34
 
 pub examples : Examples
 unfolding report_of report_over smallest_of largest_of
@@ -58,4 +61,6 @@ examples = record {
   largest_sum = refl;
   too_large = refl;
   form_first = refl;
+  form_number = refl;
+  large_number = refl;
 }

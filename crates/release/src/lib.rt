@@ -119,7 +119,7 @@ fn report_over(answers: &[u64]) -> Result<Figures, ReportFault>
 {
     let (whole, _) = answers.as_chunks::<ANSWER_PLACES>();
     let mut figures = nothing();
-    for (i, [number, _, total]) in whole.iter().enumerate() {
+    for (i, [number, _, total, ..]) in whole.iter().enumerate() {
         figures = add(figures, i as u64 + 1, *number, *total)?;
     }
     Ok(figures)

@@ -11,4 +11,4 @@ use Rattle.dimacs.proofs.close.Goals as goal
 pub returns : goal.returns
 returns c =
     let n : to_z w16 (length c.args.clause.now) ≡ pos (length c.args.clause.now) = to_z_pos w16 (omega (arith, c.requires.0)) in
-    rw n (closed _ _ _ c.requires.1 c.copy_from_slice.ensures.after)
+    rw n (closed _ _ _ c.requires.1 c.copied.ensures)

@@ -15,9 +15,9 @@ pub returns-then-room-used : goal.returns-then-room-used
 returns-then-room-used g c =
     ⊎_elim (λ h. room_small _ c.requires.0 c.in_ok-used.ensures h) (λ h. too_many _ c.requires.0 c.in_ok-used.ensures h.0 h.1) c.then-room-used.either
 
-pub shared_whole_as_front-copy_from_slice : goal.shared_whole_as_front-copy_from_slice
-shared_whole_as_front-copy_from_slice g c =
+pub shared_whole_as_front-copied : goal.shared_whole_as_front-copied
+shared_whole_as_front-copied g c =
     (omega (arith, used_within c.args.text.now c.requires.0 c.in_ok-used.ensures, c.formula.auto.words, length-replicate {A = ℤ} g.row.N), omega (arith, c.requires.2))
 
 pub returns : goal.returns
-returns g c = fits _ c.requires.0 c.in_ok-used.ensures c.if-room-used.false c.if-used-gt-WORDS.false c.copy_from_slice.ensures.after
+returns g c = fits _ c.requires.0 c.in_ok-used.ensures c.if-room-used.false c.if-used-gt-WORDS.false c.copied.ensures
