@@ -10,11 +10,11 @@ use borrow.Author.Tests.{le-leb, lt-leb}
 use Rattle.std.specs.Prelude.{Ok, Err}
 use Rattle.std.specs.Ordering.{nat_cmp, is_lt}
 use Rattle.std.proofs.lemmas.Bool.Decides.{nat_tests}
-use Rattle.meaning.specs.Lists.{keep, how_many, sum}
+use Rattle.meaning.specs.Lists.{all, keep, how_many, sum}
 use Rattle.release.specs.declared.Placed.{Placed}
 use Rattle.release.specs.declared.Figures.{Figures}
 use Rattle.release.specs.declared.ReportFault.TheVariants.{SumLarge}
-use Rattle.release.specs.Report.{Answer, answer, is_accepted, accepted, smallest_of, largest_of, sum_of, figures_of, most_sum, report_over}
+use Rattle.release.specs.Report.{Answer, answer, is_accepted, accepted, first_of, smallest_of, largest_of, sum_of, figures_of, most_sum, report_over}
 use Rattle.release.proofs.Best.{placed, smallest_first, smallest_more, largest_first, largest_more}
 
 module _ {X : Type 0} (p : X → Bool) (x : X) where
@@ -45,6 +45,19 @@ same_figures e f g h i = cc
 -- the first where neither is below the other
 pub unless_below : {X : Type 0} (k l : ℕ) (u v : X) → cond (is_lt (nat_cmp k l)) u v ≡ cond (leb l k) v u
 unless_below k l u v = grind (arith, nat_tests)
+
+-- the largest is one of the totals that are summed
+first_within : (p : Answer → Bool) (xs : List Answer) → (first_of p xs).total ≤ sum (map (λ a. a.total) xs)
+first_within p [] = omega arith
+first_within p (a ∷ xs) = go (p a) (first_within p xs)
+  where
+    go : (b : Bool) → (first_of p xs).total ≤ sum (map (λ a. a.total) xs) → (cond b (record { total = a.total; place = a.place }) (first_of p xs)).total ≤ a.total + sum (map (λ a. a.total) xs)
+    go true h = omega arith
+    go false h = omega (arith, h)
+
+pub largest_within : (xs : List Answer) → (largest_of (accepted xs)).total ≤ sum_of xs
+unfolding largest_of
+largest_within xs = first_within (λ a. all (λ b. leb b.total a.total) (accepted xs)) (accepted xs)
 
 module _ (x : Answer) where
   smallest_one : (ys : List Answer) → length ys ≡ 0 → smallest_of (ys ++ x ∷ []) ≡ placed x
